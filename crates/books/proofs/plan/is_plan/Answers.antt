@@ -1,0 +1,27 @@
+use mathlib.Core.Path.{_≡_, sym}
+use Prim.Native.Nat.{_≤_, _<_}
+use native.Mathlib.Omega.{arith}
+use lib.ListN.{length, getD}
+use Rattle.std.proofs.shelf.Lists.{getD-past, getD-default}
+use borrow.Author.Needs.{needs}
+use Rattle.books.proofs.Plans.{begins-next, begins-not}
+use Rattle.books.proofs.plan.is_plan.Needs as need
+
+pub returns-then-plan-bays : need.returns-then-plan-bays
+returns-then-plan-bays g c =
+    let m = g .B·Book .meaning (c .args .book .now) in
+    let plan = c .args .plan .now in
+    let few : m .choices (length plan) ≤ 8 = g .B·Book·met .lawful (c .args .book .now) .few-choices (length plan) (omega arith) in
+    let past : getD plan (length plan) 255 ≡ 255 = getD-past plan (length plan) 255 (omega arith) in
+    sym (begins-not (m .choices) (m .bays) (length plan) plan (omega arith) (omega arith))
+
+pub returns-then-plan-bay : need.returns-then-plan-bay
+returns-then-plan-bay g c =
+    let m = g .B·Book .meaning (c .args .book .now) in
+    let plan = c .args .plan .now in
+    sym (begins-not (m .choices) (m .bays) (c .loop-bay .bay) plan (omega arith) (omega (arith, getD-default plan (c .loop-bay .bay) 255 0 (omega arith))))
+
+pub loop-bay-again : need.loop-bay-again
+loop-bay-again g c =
+    let m = g .B·Book .meaning (c .args .book .now) in
+    begins-next (m .choices) (c .loop-bay .bay) (c .args .plan .now) (c .loop-bay .inv) (omega (arith, getD-default (c .args .plan .now) (c .loop-bay .bay) 255 0 (omega arith)))

@@ -1,0 +1,4 @@
+pub mod Prices
+pub mod Sets
+pub mod Books
+pub mod Plans
