@@ -1,0 +1,4 @@
+pub mod Kept
+pub mod Listed
+pub mod Counted
+pub mod Bits
