@@ -1,0 +1,5 @@
+pub mod Masks
+pub mod Views
+pub mod Links
+pub mod Written
+pub mod Replies
