@@ -9,7 +9,7 @@ ghost use Rattle.model.specs.Sets.{has as hasOf, minus, one};
 pub fn has(set: u32, bay: u8) -> bool
     ensures { λ r. ⌜ r ≡ hasOf set bay ⌝ }
 {
-    bay < 32 && set >> bay & 1 == 1
+    bay < 32 && (set >> bay) % 2 == 1
 }
 
 // The set without the bay.

@@ -1,17 +1,30 @@
 // Writing the lines of a course, one bay after another.
 ghost use mathlib.Core.Path.{_≡_};
+ghost use mathlib.Core.Bool.{cond};
 ghost use Prim.Native.Nat.{_+_, _<_, _≤_, _^_};
 ghost use lib.Count.{ones};
 ghost use lib.ListN.{length};
+ghost use Rattle.bays.specs.Neighbours.{connected};
 ghost use Rattle.course.specs.Masks.{course-of, put};
 use crate::line::Line;
+use crate::line::Step;
 use crate::step::step;
 use bays::connect;
 use bays::without;
 use pickers::picker::Picker;
 
-// Writes the lines of the bays that remain, in passing order, from `at` on. A fold connects its bay's neighbours in a copy
-// of the neighbour sets.
+// The neighbour sets after a step: a fold connects its bay's neighbours.
+fn sets_after(masks: [u32; 24], next: Step) -> [u32; 24]
+    ensures { λ r. ⌜ r ≡ cond (next .folded) (connected masks (next .bay)) masks ⌝ }
+{
+    if next.folded {
+        connect(masks, next.bay)
+    } else {
+        masks
+    }
+}
+
+// Writes the lines of the bays that remain, in passing order, from `at` on, with neighbour sets of its own.
 pub(crate) fn fill<K: Picker>(
     picker: &K,
     choices: &[u8; 24],
@@ -37,16 +50,11 @@ pub(crate) fn fill<K: Picker>(
         choices: choices[next.bay as usize],
         folded: next.folded,
     };
-    let sets = if next.folded {
-        connect(masks, next.bay)
-    } else {
-        masks
-    };
     fill(
         picker,
         choices,
         k,
-        sets,
+        sets_after(masks, next),
         without(remaining, next.bay),
         unused - next.used,
         left - 1,

@@ -68,9 +68,9 @@ impl Question {
     pub fn choices(&self, bay: u8) -> u8
         ensures { λ r. ⌜ r ≡ getD (now (self .entry) .choices) bay 0 ⌝ }
     {
-        let tries = &self.choices[..];
-        if (bay as usize) < tries.len() {
-            tries[bay as usize]
+        let counts = &self.choices[..];
+        if (bay as usize) < counts.len() {
+            counts[bay as usize]
         } else {
             0
         }

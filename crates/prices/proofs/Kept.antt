@@ -1,5 +1,5 @@
 -- Amounts up to a limit keep the laws of a price kind, by capped addition and by the larger.
-use mathlib.Core.Path.{_≡_, refl, ap}
+use mathlib.Core.Path.{_≡_, ap, sym, _∙_}
 use mathlib.Core.Bool.{true}
 use mathlib.Core.HLevel.{isProp→PathP}
 use Prim.Native.Nat.{ℕ, _+_, _≤_, min, max}
@@ -28,11 +28,21 @@ sums-laws cap = record {
   mono = λ p q r h. le-leb _ _ (omega (arith, leb-true _ _ h));
 }
 
+max-assoc : (a b c : ℕ) → max (max a b) c ≡ max a (max b c)
+max-assoc a b c = omega arith
+
+-- the larger of two amounts is within the limit
+uncapped : (cap a b : ℕ) → a ≤ cap → b ≤ cap → min (max a b) cap ≡ max a b
+uncapped cap a b h k = omega arith
+
 pub larger-laws : (cap : ℕ) → PriceLaws (larger cap)
 larger-laws cap = record {
-  assoc = λ p q r. upto-path (omega arith);
+  assoc = λ p q r. upto-path (
+      ap (λ x. min (max x (r .number)) cap) (uncapped cap (p .number) (q .number) (p .within) (q .within))
+      ∙ ap (λ x. min x cap) (max-assoc (p .number) (q .number) (r .number))
+      ∙ ap (λ x. min (max (p .number) x) cap) (sym (uncapped cap (q .number) (r .number) (q .within) (r .within))));
   comm = λ p q. upto-path (omega arith);
-  neutral = λ p. upto-path (omega arith);
+  neutral = λ p. upto-path (omega (arith, p .within));
   absorbs = λ p. upto-path (omega (arith, p .within));
   total = λ p q h. le-leb _ _ (omega (arith, leb-false _ _ h));
   trans = λ p q r h k. le-leb _ _ (omega (arith, leb-true _ _ h, leb-true _ _ k));

@@ -31,6 +31,6 @@ abbrev pub larger : (cap : ℕ) → Ops (Upto cap)
 larger cap = record {
   free = capped cap 0;
   forbidden = capped cap cap;
-  combine = λ p q. upto cap (max (p .number) (q .number)) (omega (arith, p .within, q .within));
+  combine = λ p q. capped cap (max (p .number) (q .number));
   at-most = λ p q. leb (p .number) (q .number);
 }

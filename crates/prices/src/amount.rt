@@ -6,11 +6,18 @@ ghost use Rattle.prices.specs.Offers.{accepted};
 use crate::upto::Upto;
 
 impl<const TOP: u32> Upto<TOP> {
+    // Whether a number is not above the limit.
+    fn fits(number: u32) -> bool
+        ensures { λ r. ⌜ r ≡ leb number TOP ⌝ }
+    {
+        number <= TOP
+    }
+
     // The amount that a number offers; none above the limit.
     pub fn offered(number: u32) -> Option<Upto<TOP>>
         ensures { λ r. ⌜ r ≡ accepted number TOP (upto TOP number) ⌝ }
     {
-        if number <= TOP {
+        if Self::fits(number) {
             Some(Upto { number })
         } else {
             None

@@ -26,7 +26,7 @@ pub impl Price for Waits as WaitsPrice {
     }
 
     fn combine(self, other: Waits) -> Waits {
-        if self.up_to(other) { other } else { self }
+        Upto::capped(self.number.max(other.number))
     }
 
     fn at_most(self, other: Waits) -> bool {

@@ -3,7 +3,7 @@ use Prim.Native.Nat.{_≤_, _<_}
 use native.Mathlib.Omega.{arith}
 use lib.ListN.{length, getD}
 use Rattle.std.proofs.shelf.Lists.{getD-past, getD-default}
-use borrow.Author.Needs.{needs}
+use borrow.Author.Tests.{ltb-true, ltb-false}
 use Rattle.books.proofs.Plans.{begins-next, begins-not}
 use Rattle.books.proofs.plan.is_plan.Needs as need
 
@@ -15,13 +15,15 @@ returns-then-plan-bays g c =
     let past : getD plan (length plan) 255 ≡ 255 = getD-past plan (length plan) 255 (omega arith) in
     sym (begins-not (m .choices) (m .bays) (length plan) plan (omega arith) (omega arith))
 
-pub returns-then-plan-bay : need.returns-then-plan-bay
-returns-then-plan-bay g c =
+pub returns-then-not-is-choice : need.returns-then-not-is-choice
+returns-then-not-is-choice g c =
     let m = g .B·Book .meaning (c .args .book .now) in
     let plan = c .args .plan .now in
-    sym (begins-not (m .choices) (m .bays) (c .loop-bay .bay) plan (omega arith) (omega (arith, getD-default plan (c .loop-bay .bay) 255 0 (omega arith))))
+    let over = ltb-false _ _ (sym (c .if-not-is-choice .ensures tt)) in
+    sym (begins-not (m .choices) (m .bays) (c .loop-bay .bay) plan (omega arith) (omega (arith, over, c .choices .ensures, getD-default plan (c .loop-bay .bay) 255 0 (omega arith))))
 
 pub loop-bay-again : need.loop-bay-again
 loop-bay-again g c =
     let m = g .B·Book .meaning (c .args .book .now) in
-    begins-next (m .choices) (c .loop-bay .bay) (c .args .plan .now) (c .loop-bay .inv) (omega (arith, getD-default (c .args .plan .now) (c .loop-bay .bay) 255 0 (omega arith)))
+    let below = ltb-true _ _ (sym (c .if-not-is-choice .ensures tt)) in
+    begins-next (m .choices) (c .loop-bay .bay) (c .args .plan .now) (c .loop-bay .inv) (omega (arith, below, c .choices .ensures, getD-default (c .args .plan .now) (c .loop-bay .bay) 255 0 (omega arith)))

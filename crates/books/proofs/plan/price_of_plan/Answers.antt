@@ -1,4 +1,4 @@
-use mathlib.Core.Path.{_≡_, sym, ap, ap₂, _∙_}
+use mathlib.Core.Path.{_≡_, sym, ap, _∙_}
 use Prim.Native.Nat.{_≤_}
 use native.Mathlib.Omega.{arith}
 use lib.ListN.{length, getD}
@@ -16,11 +16,11 @@ pub loop-bay-again : need.loop-bay-again
 loop-bay-again g c =
     let k = g .Cost·Price .ops in
     let m = g .B·Book .meaning (c .args .book .now) in
-    c .combine-sum .ensures ∙ ap₂ (k .combine) (c .loop-bay .inv) (c .own .ensures) ∙ sum-next k (λ i. m .own i (getD (c .args .plan .now) i 0)) (c .loop-bay .bay)
+    c .with-own-sum .ensures ∙ ap (λ x. k .combine x (m .own (c .loop-bay .bay) (getD (c .args .plan .now) (c .loop-bay .bay) 0))) (c .loop-bay .inv) ∙ sum-next k (λ i. m .own i (getD (c .args .plan .now) i 0)) (c .loop-bay .bay)
 
 pub loop-rule-again : need.loop-rule-again
 loop-rule-again g c =
     let k = g .Cost·Price .ops in
     let m = g .B·Book .meaning (c .args .book .now) in
-    c .combine-sum-in-loop-rule .ensures ∙ ap₂ (k .combine) (c .loop-rule .inv) (c .price .ensures) ∙ g .Cost·Price·met .lawful .assoc _ _ _
+    c .with-rule-sum .ensures ∙ ap (λ x. k .combine x (m .price (c .loop-rule .rule) (c .args .plan .now))) (c .loop-rule .inv) ∙ g .Cost·Price·met .lawful .assoc _ _ _
     ∙ ap (k .combine (owns k m (c .args .plan .now) (m .bays))) (sum-next k (λ r. m .price r (c .args .plan .now)) (c .loop-rule .rule))

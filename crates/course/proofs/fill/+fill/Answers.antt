@@ -1,5 +1,4 @@
 use mathlib.Core.Path.{_≡_, refl, sym, ap, subst, _∙_}
-use mathlib.Core.Bool.{true, cond}
 use Prim.Native.Nat.{ℕ, _<_, _≤_, _-_}
 use native.Mathlib.Omega.{arith}
 use lib.ListN.{getD, length-set}
@@ -7,13 +6,10 @@ use lib.Count.{ones}
 use mir.Syntax.{w8}
 use mir.Val.{toZ, ofZ}
 use Rattle.std.proofs.shelf.Signed.{toZ-ofZ}
-use Rattle.std.proofs.shelf.Tests.{cond-true, cond-false}
-use Rattle.bays.specs.Neighbours.{connected}
 use Rattle.model.specs.Sets.{has, one, minus}
 use Rattle.model.proofs.Bits.{has-below, minus-small}
 use Rattle.course.proofs.Steps.{some-from-ones, one-fewer, listed}
 use Rattle.course.proofs.fill.+fill.Needs as need
-use Rattle.course.proofs.fill.+fill.Needs.{then-next, else-next}
 
 pub index-choices-next : need.index-choices-next
 index-choices-next g t c =
@@ -46,12 +42,7 @@ pub returns : need.returns
 returns g t c =
     let ms = c .args .masks in
     let d = c .step-next .result in
-    let sets : c .if-next .sets ≡ cond (d .folded) (connected ms (d .bay)) ms =
-    elim (c .if-next .came) [
-      | then-next w ↦ w .sets-is ∙ w .connect-sets .ensures ∙ sym (cond-true (d .folded) (connected ms (d .bay)) ms (w .if-next .taken))
-      | else-next w ↦ w .sets-is ∙ sym (cond-false (d .folded) (connected ms (d .bay)) ms (w .if-next .left))
-    ] in
     let k-is : toZ w8 (ofZ w8 (c .args .k)) ≡ c .args .k = toZ-ofZ w8 (c .args .k) (c .fits .k) in
     c .fill .ensures
-    ∙ listed (g .K·Picker .answer (c .args .picker .now)) (c .args .choices .now) (c .args .k) (toZ w8 (ofZ w8 (c .args .k))) (c .args .left) (c .args .left - 1) ms (c .if-next .sets) (c .args .remaining) (c .without .result) (c .args .unused) (c .args .unused - d .used) d (c .args .lines .now) (c .args .at)
-    k-is (omega arith) (c .step-next .ensures .is) sets (c .without .ensures) refl
+    ∙ listed (g .K·Picker .answer (c .args .picker .now)) (c .args .choices .now) (c .args .k) (toZ w8 (ofZ w8 (c .args .k))) (c .args .left) (c .args .left - 1) ms (c .sets-after .result) (c .args .remaining) (c .without .result) (c .args .unused) (c .args .unused - d .used) d (c .args .lines .now) (c .args .at)
+    k-is (omega arith) (c .step-next .ensures .is) (c .sets-after .ensures) (c .without .ensures) refl

@@ -1,0 +1,10 @@
+-- The text of lines, one line longer.
+use mathlib.Core.Path.{_≡_, refl, sym, ap, _∙_}
+use mathlib.Core.List.{List, [], _∷_, _++_, append-assoc, append-nil}
+use Prim.Native.Nat.{ℕ}
+use Rattle.course.specs.declared.line.Line.{Line}
+use Rattle.replies.specs.Texts.{line-text, lines-text}
+
+pub lines-more : (ls : List Line) (l : Line) → lines-text (ls ++ l ∷ []) ≡ lines-text ls ++ line-text l
+lines-more [] l = append-nil (line-text l)
+lines-more (x ∷ ls) l = ap (λ (t : List ℕ). line-text x ++ t) (lines-more ls l) ∙ sym (append-assoc (line-text x) (lines-text ls) (line-text l))
