@@ -6,8 +6,9 @@ use Prim.Native.Nat.{ℕ, zero, suc, _+_, _*_, _≤_, _<_}
 use native.Mathlib.Nat.{mul-one, mul-assoc, mul-add, one-mul, mul-comm, le-mul-of-pos-right}
 use native.Mathlib.Omega.{arith}
 use lib.ListN.{length}
-use Rattle.model.specs.Claims.{Each, states, Forecast, Forecast-counts}
+use Rattle.model.specs.Claims.{states, Forecast, Forecast-counts}
 use Rattle.model.specs.Course.{Line, forecast}
+use Rattle.model.specs.Lists.{Each}
 
 ways : Line → ℕ
 ways l = cond (l .fold) 1 (l .tries)

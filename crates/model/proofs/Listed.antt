@@ -10,9 +10,9 @@ use Rattle.std.specs.Iters.{counting}
 use Rattle.std.proofs.shelf.Counted.{length-counting}
 use Rattle.std.proofs.shelf.Tests.{eqb-true, eq-eqb, both-ways}
 use Rattle.model.specs.Books.{Meaning}
-use Rattle.model.specs.Claims.{Each, Lists, Course-lists}
+use Rattle.model.specs.Claims.{Lists, Course-lists}
 use Rattle.model.specs.Course.{Passing, sure, decide, Line, drop-bay, connect, course, linked, passing-in, course-in}
-use Rattle.model.specs.Lists.{keep, member, times}
+use Rattle.model.specs.Lists.{Each, keep, member, times}
 use Rattle.model.proofs.Kept.{member-keep, keep-fewer, member-counting}
 
 -- the bay that is decided is left

@@ -8,11 +8,7 @@ use lib.IntN.{ℤ}
 use lib.ListN.{length}
 use Rattle.model.specs.Books.{Meaning}
 use Rattle.model.specs.Course.{Answers, Line, course-in, forecast}
-use Rattle.model.specs.Lists.{times}
-
-abbrev pub Each : {A : Type 0} → (A → Type 0) → List A → Type 0
-Each P [] = Unit {0}
-Each P (x ∷ xs) = P x × Each P xs
+use Rattle.model.specs.Lists.{Each, times}
 
 -- each bay of the book stands on one line, no other number does, and each line has its bay's choices
 pub record Lists {P : Type 0} (m : Meaning P) (ls : List Line) : Type 0 where

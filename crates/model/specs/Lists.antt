@@ -18,6 +18,11 @@ abbrev pub member : ℕ → List ℕ → Bool
 member i [] = false
 member i (x ∷ xs) = eqb i x || member i xs
 
+-- a fact of each element
+abbrev pub Each : {A : Type 0} → (A → Type 0) → List A → Type 0
+Each P [] = Unit {0}
+Each P (x ∷ xs) = P x × Each P xs
+
 -- how often a number stands in a list
 abbrev pub times : ℕ → List ℕ → ℕ
 times i [] = 0

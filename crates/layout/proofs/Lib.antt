@@ -1,0 +1,4 @@
+pub mod Masks
+pub mod Cells
+pub mod Places
+pub mod Meant
