@@ -1,53 +1,35 @@
 // Runs cases from standard input over the library, one line in and one line out. A line is
-//   E MARK NUMBER HEX QUIET    reads the book of the mark, CTS or MIN, from bytes in hex, `-` for none
-//   C PICKER k cells lines     the course over that book, with room for so many lines
-// The picker is `order`, from 0 to 23, or `order:` and numbers parted by commas. After a refused book a course answers
-// `closed`; a line of another form answers `unread`.
+//   E MARK NUMBER HEX QUIET    reads the book of the mark, CTS or MIN, from bytes in hex, `-` for none, under quiet hours if
+//                              QUIET is 24 numbers parted by commas
+//   P bay choice, U bay        pins and unpins a bay
+//   S rule, R rule             suspends and resumes a rule
+//   C PICKER k cells lines     the course over the pile, with room for so many lines
+// The picker is `order`, from 0 to 23, `order:` and numbers parted by commas, or `fewest`. After a refused book every line up to
+// the next `E` answers `closed`; a line of another form answers `unread`.
+mod case;
+mod courses;
 mod hex;
-mod open;
-mod orders;
-mod told;
+mod numbers;
+mod pile;
 
-use open::Opened;
-use std::alloc::AllocError;
-use std::alloc::Global;
+use case::Case;
+use pile::answer;
+use pile::book_text;
 use std::io;
 use std::io::BufRead;
 use std::io::BufReader;
-use told::Asked;
-use told::book_text;
-use told::course_case;
-
-// The book that the fields of an `E` line give.
-fn opening(heap: Global, fields: &[&str]) -> Result<Opened, AllocError> {
-    match fields {
-        ["E", mark, _number, hex, _quiet] => Opened::from_hex(heap, mark, hex),
-        _ => Ok(Opened::nothing(heap)),
-    }
-}
-
-// What the fields of a `C` line ask for: the picker, and with what.
-fn asking<'a>(fields: &[&'a str]) -> Option<(&'a str, Asked)> {
-    let ["C", picker, k, cells, lines] = fields else {
-        return None;
-    };
-    let k = k.parse::<i64>().ok()?;
-    let cells = cells.parse::<usize>().ok()?;
-    let lines = lines.parse::<usize>().ok()?;
-    Some((picker, Asked { k, cells, lines }))
-}
 
 fn main(rt: LibcRuntime) -> io::Result<()> {
     let heap = rt.alloc();
-    let mut book = Opened::nothing(heap);
+    let mut case = Case::nothing(heap);
     for line in BufReader::new(rt.stdin()).lines(heap) {
         let line = line?;
         let fields: Vec<&str> = line.as_str().split(' ').collect(heap)?;
-        let text = if let Some((picker, asked)) = asking(fields.as_slice()) {
-            course_case(heap, &book, picker, asked)?
+        let text = if let ["E", mark, _, hex, quiet] = fields.as_slice() {
+            case = Case::new(heap, mark, hex, quiet)?;
+            book_text(heap, &case)?
         } else {
-            book = opening(heap, fields.as_slice())?;
-            book_text(heap, &book)?
+            answer(heap, &mut case, fields.as_slice())?
         };
         println!(rt, "{text}")?;
     }

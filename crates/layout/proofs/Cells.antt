@@ -1,6 +1,6 @@
 -- The place of a plan's cell in the table of a rule.
 use mathlib.Core.Path.{_≡_, refl, sym, ap, subst, _∙_}
-use mathlib.Core.Bool.{Bool, true, false, _&&_}
+use mathlib.Core.Bool.{true}
 use mathlib.Core.Logic.{⊎-elim}
 use mathlib.Core.List.{List, [], _∷_}
 use Prim.Native.Nat.{ℕ, zero, suc, _+_, _-_, _*_, _^_, _≤_, _<_}
@@ -8,17 +8,19 @@ use native.Mathlib.Nat.{add-mul, pow-suc, pow-le-pow-right, mul-assoc}
 use native.Mathlib.Omega.{arith}
 use lib.Dec.{ltb}
 use lib.ListN.{length, getD}
-use borrow.Author.Tests.{ltb-true, both-ways}
+use borrow.Author.Tests.{ltb-true, both-ways, eq-eqb}
 use Rattle.std.proofs.shelf.Bits.{mul-le}
 use Rattle.std.proofs.shelf.Lists.{getD-past, nil-from-length}
 use Rattle.std.proofs.shelf.Parts.{first-rest}
 use Rattle.std.proofs.shelf.Tests.{cases-lt}
 use Rattle.model.specs.Books.{begins}
-use Rattle.model.specs.Sets.{has, one}
+use Rattle.model.specs.Sets.{bit, has, one}
+use Rattle.model.proofs.Bits.{bit-one-same}
 use Rattle.books.proofs.Plans.{begins-not}
 use Rattle.format.specs.House.{cellsIn, Rising}
 use Rattle.layout.specs.Meant.{maskOf, placeOf}
-use Rattle.layout.proofs.Masks.{rest-of, has-left, has-right, has-one}
+use Rattle.reader.proofs.Fronts.{both}
+use Rattle.layout.proofs.Masks.{rest-of, has-left, has-right}
 
 pub place-none : (cs plan scope : List ℕ) (at : ℕ) → length scope ≡ 0 → at ≡ placeOf cs plan at scope
 place-none cs plan scope at h = sym (ap (placeOf cs plan at) (nil-from-length scope h))
@@ -59,12 +61,8 @@ place-below cs plan (b ∷ bs) lo bays r h at =
 pub place-local : (cs p q scope : List ℕ) (at : ℕ) → ((i : ℕ) → has (maskOf scope) i ≡ true → getD p i 0 ≡ getD q i 0) → placeOf cs p at scope ≡ placeOf cs q at scope
 place-local cs p q [] at h = refl
 place-local cs p q (b ∷ scope) at h =
-    ap (λ (v : ℕ). placeOf cs p (at * getD cs b 0 + v) scope) (h b (has-left (one b) (maskOf scope) b (has-one b))) ∙
+    ap (λ (v : ℕ). placeOf cs p (at * getD cs b 0 + v) scope) (h b (has-left (one b) (maskOf scope) b (eq-eqb (bit (one b) b) 1 (bit-one-same b)))) ∙
     place-local cs p q scope (at * getD cs b 0 + getD q b 0) (λ i l. h i (has-right (one b) (maskOf scope) i l))
-
-both : (a b : Bool) → (a && b) ≡ true → (a ≡ true) × (b ≡ true)
-both true b h = (refl, h)
-both false b h = absurd (both-ways _ refl h)
 
 default-le : (plan : List ℕ) (i : ℕ) → getD plan i 0 ≤ getD plan i 255
 default-le [] i = omega arith

@@ -2,16 +2,16 @@
 use mathlib.Core.Path.{_≡_, sym, ap, _∙_}
 use mathlib.Core.Bool.{true}
 use mathlib.Core.List.{List, [], _∷_}
-use Prim.Native.Nat.{ℕ, _+_, _-_, _*_, _/_, _%_, _^_, _<_, max}
+use Prim.Native.Nat.{ℕ, _+_, _-_, _^_, _<_}
 use native.Mathlib.Omega.{arith}
 use borrow.Author.Tests.{eqb-true, eq-eqb}
-use lib.Bits.{bitOr, or-step, or-shr, or-lt}
+use lib.Bits.{bitOr, or-lt}
 use lib.Pow.{pow-lt, pow-pos}
 use lib.ListN.{length, take, drop, getD}
-use Rattle.std.proofs.shelf.Bits.{div-mul-add}
 use Rattle.std.proofs.shelf.Lists.{take-rest, length-drop, getD-drop, nil-from-length}
 use Rattle.std.proofs.shelf.Parts.{first-rest}
 use Rattle.model.specs.Sets.{has, one}
+use Rattle.model.proofs.Bits.{bit-or}
 use Rattle.format.specs.House.{Rising}
 use Rattle.layout.specs.Meant.{maskOf}
 
@@ -32,22 +32,12 @@ mask-more scope rest all h e f = f ∙ ap (bitOr (one (getD scope 0 0))) e ∙ s
 pub mask-none : (scope : List ℕ) → length scope ≡ 0 → 0 ≡ maskOf scope
 mask-none scope h = sym (ap maskOf (nil-from-length scope h))
 
-low-or : (x y : ℕ) → bitOr x y % 2 ≡ max (x % 2) (y % 2)
-low-or x y = omega (arith, or-step x y)
-
-bit-or : (m n b : ℕ) → bitOr m n / 2 ^ b % 2 ≡ max (m / 2 ^ b % 2) (n / 2 ^ b % 2)
-bit-or m n b = ap (λ (x : ℕ). x % 2) (or-shr m n b) ∙ low-or (m / 2 ^ b) (n / 2 ^ b)
-
+-- a set that is joined to another keeps its bays
 pub has-left : (m n i : ℕ) → has m i ≡ true → has (bitOr m n) i ≡ true
 has-left m n i h = eq-eqb _ _ (omega (arith, bit-or m n i, eqb-true _ _ h))
 
 pub has-right : (m n i : ℕ) → has n i ≡ true → has (bitOr m n) i ≡ true
 has-right m n i h = eq-eqb _ _ (omega (arith, bit-or m n i, eqb-true _ _ h))
-
-pub has-one : (b : ℕ) → has (one b) b ≡ true
-has-one b =
-    let e : 1 * 2 ^ b + 0 ≡ 2 ^ b = omega arith in
-    eq-eqb _ _ (ap (λ (x : ℕ). x % 2) (ap (λ (x : ℕ). x / 2 ^ b) (sym e) ∙ div-mul-add 1 (2 ^ b) 0 (pow-pos b)))
 
 pub mask-below : (lo bays : ℕ) (scope : List ℕ) → Rising lo bays scope → maskOf scope < 2 ^ bays
 mask-below lo bays [] r = pow-pos bays

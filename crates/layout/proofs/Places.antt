@@ -17,7 +17,6 @@ use Rattle.std.proofs.shelf.Tests.{cases-lt}
 use Rattle.format.specs.Pieces.{number}
 use Rattle.model.specs.Lists.{Each}
 use Rattle.format.specs.House.{cellsIn, Rule}
-use Rattle.model.specs.Lists.{Each}
 use Rattle.format.specs.House.{Rising, FitsRule, FitsBody, countsOf}
 use Rattle.reader.specs.Places.{priceAt, cellsAt, choicesAt, ruleAt, scopeAt, tableAt}
 use Rattle.reader.specs.Indexed.{Found, layoutBy}

@@ -4,13 +4,12 @@ use mathlib.Core.List.{List, []}
 use Prim.Native.Nat.{ℕ, _+_, _*_, _≤_, _<_}
 use lib.ListN.{length, drop, getD}
 use Rattle.format.specs.Pieces.{got}
-use Rattle.format.specs.House.{cellsIn, Layout, bookIn, ended}
+use Rattle.format.specs.House.{cellsIn, Layout, bookIn, ended, FitsBody}
 use Rattle.format.specs.Steps.{bodyIn}
-use Rattle.format.specs.House.{FitsBody}
 use Rattle.reader.specs.declared.places.Index.{Index}
 use Rattle.reader.specs.Places.{layoutAt, choicesAt, tableAt, scopeAt}
 
--- each row and each rule lies within the bytes
+-- the layout that an index finds keeps the limits, and each row and each rule lies within the bytes
 pub record Found (bs : List ℕ) (i : Index) : Type 0 where
   pub fits : FitsBody 4294967295 (layoutAt bs (i .bays) (i .rules) (i .«own_at») (i .«rule_at»))
   pub counts : 2 + i .bays ≤ length bs
