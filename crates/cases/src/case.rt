@@ -44,7 +44,7 @@ fn last_choices(heap: Global, text: &str) -> Result<Option<[u8; 24]>, AllocError
 }
 
 impl Case {
-    pub fn nothing(heap: Global) -> Case {
+    pub(crate) fn nothing(heap: Global) -> Case {
         Case {
             kind: Kind::Neither,
             bytes: Vec::new(heap),
@@ -53,7 +53,7 @@ impl Case {
     }
 
     // The book of a mark from bytes in hex, perhaps under quiet hours.
-    pub fn new(heap: Global, mark: &str, hex: &str, quiet: &str) -> Result<Case, AllocError> {
+    pub(crate) fn new(heap: Global, mark: &str, hex: &str, quiet: &str) -> Result<Case, AllocError> {
         let kind = match mark {
             "CTS" => Kind::OfCents,
             "MIN" => Kind::OfWaits,

@@ -22,7 +22,7 @@ pub struct Asked {
 }
 
 impl Asked {
-    pub fn parse(k: &str, cells: &str, lines: &str) -> Option<Asked> {
+    pub(crate) fn parse(k: &str, cells: &str, lines: &str) -> Option<Asked> {
         let k = k.parse::<i64>().ok()?;
         let cells = cells.parse::<usize>().ok()?;
         let lines = lines.parse::<usize>().ok()?;
@@ -57,7 +57,7 @@ fn order_list(heap: Global, name: &str) -> Result<Vec<u8>, AllocError> {
 }
 
 // The course by the picker of that name; a list is checked as an order first.
-pub fn course_by<B: Book>(
+pub(crate) fn course_by<B: Book>(
     heap: Global,
     book: &B,
     name: &str,

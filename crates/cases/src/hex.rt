@@ -19,7 +19,7 @@ fn decode(digits: &[u8], bytes: &mut Vec<u8>) -> Result<(), AllocError> {
 }
 
 // Pieces parted by commas, each two digits a byte; `00*96` stands for 96 times the same. `-` has no bytes.
-pub fn decoded(heap: Global, text: &str) -> Result<Vec<u8>, AllocError> {
+pub(crate) fn decoded(heap: Global, text: &str) -> Result<Vec<u8>, AllocError> {
     let mut bytes = Vec::new(heap);
     for piece in text.split(',') {
         let mut parts = piece.split('*');

@@ -164,7 +164,7 @@ fn answer_of<P: Stored>(
     }
 }
 
-pub fn answer(heap: Global, case: &mut Case, fields: &[&str]) -> Result<String, AllocError> {
+pub(crate) fn answer(heap: Global, case: &mut Case, fields: &[&str]) -> Result<String, AllocError> {
     match case.kind {
         Kind::OfCents => answer_of::<Cents>(heap, case.bytes.as_slice(), &mut case.held, fields),
         Kind::OfWaits => answer_of::<Waits>(heap, case.bytes.as_slice(), &mut case.held, fields),
@@ -180,7 +180,7 @@ fn read_text<P: Stored>(heap: Global, bytes: &[u8]) -> Result<String, AllocError
 }
 
 // Whether the bytes are a book of the kind.
-pub fn book_text(heap: Global, case: &Case) -> Result<String, AllocError> {
+pub(crate) fn book_text(heap: Global, case: &Case) -> Result<String, AllocError> {
     let bytes = case.bytes.as_slice();
     match case.kind {
         Kind::OfCents => read_text::<Cents>(heap, bytes),

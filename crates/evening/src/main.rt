@@ -1,4 +1,9 @@
 // Reads a book of cents from book.inn and answers command lines from standard input, one line each.
+ghost use mathlib.Core.Path.{_≡_};
+ghost use mathlib.Core.Bool.{cond};
+ghost use Prim.Native.Nat.{_-_};
+ghost use lib.Dec.{eqb};
+ghost use lib.ListN.{length, getD, take};
 use layout::HouseBook;
 use layout::HouseBookBook;
 use prices::cents::Cents;
@@ -26,11 +31,17 @@ fn book_bytes(rt: &LibcRuntime) -> io::Result<Vec<u8>> {
     }
 }
 
-// The line without its line feed.
-fn trimmed(line: &[u8]) -> &[u8] {
-    match line {
-        [text @ .., b'\n'] => text,
-        _ => line,
+// The line without its line feed, if it has one.
+fn trimmed(line: &[u8]) -> &[u8]
+    ensures { λ r. ⌜ now r ≡ cond (eqb (getD (now (line .entry)) (length (now (line .entry)) - 1) 0) 10) (take (length (now (line .entry)) - 1) (now (line .entry))) (now (line .entry)) ⌝ }
+{
+    let Some(last) = line.last() else {
+        return line;
+    };
+    if *last == b'\n' {
+        &line[0..line.len() - 1]
+    } else {
+        line
     }
 }
 
