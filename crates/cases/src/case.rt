@@ -53,7 +53,12 @@ impl Case {
     }
 
     // The book of a mark from bytes in hex, perhaps under quiet hours.
-    pub(crate) fn new(heap: Global, mark: &str, hex: &str, quiet: &str) -> Result<Case, AllocError> {
+    pub(crate) fn new(
+        heap: Global,
+        mark: &str,
+        hex: &str,
+        quiet: &str,
+    ) -> Result<Case, AllocError> {
         let kind = match mark {
             "CTS" => Kind::OfCents,
             "MIN" => Kind::OfWaits,

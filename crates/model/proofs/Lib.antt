@@ -2,3 +2,13 @@ pub mod Kept
 pub mod Listed
 pub mod Counted
 pub mod Bits
+pub mod Ordered
+pub mod Floors
+pub mod Folds
+pub mod Adjacent
+pub mod Least
+pub mod Visits
+pub mod Costs
+pub mod Searching
+pub mod Standing
+pub mod Serves

@@ -44,8 +44,8 @@ pub record Step : Type 0 where
   pub fold : Bool
   pub cells : ℕ
 
--- A bay is folded if its neighbours number at most k, and the combinations of their choices fit the unused cells. Two
--- bays are given as `r` and `rs`, so that at least one is left.
+-- A bay is folded if its neighbours number at most k, and the combinations of their choices fit the unused cells. The
+-- bays left are given as the first and the others, so that there is one.
 unfoldable pub decide : Passing → (ℕ → ℕ → Bool) → ℕ → ℕ → List ℕ → Step
 decide S adj unused r rs =
     let b = sure r rs (S .pick (views S adj (r ∷ rs)) (S .k)) in

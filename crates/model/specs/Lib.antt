@@ -5,3 +5,8 @@ pub mod Plans
 pub mod Lists
 pub mod Course
 pub mod Claims
+pub mod Terms
+pub mod Search
+pub mod SearchClaims
+pub mod Searched
+pub mod Stands
