@@ -45,7 +45,7 @@ fn course_over<B: Book, K: Picker>(
 }
 
 // The list after `order:`; from 0 to 23 for any other word.
-fn order_list(heap: Global, name: &str) -> Result<Vec<u8>, AllocError> {
+pub(crate) fn order_list(heap: Global, name: &str) -> Result<Vec<u8>, AllocError> {
     if let Some(list) = name.strip_prefix("order:") {
         return numbers(heap, list);
     }

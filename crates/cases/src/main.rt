@@ -4,6 +4,7 @@
 //   P bay choice, U bay        pins and unpins a bay
 //   S rule, R rule             suspends and resumes a rule
 //   C PICKER k cells lines     the course over the pile, with room for so many lines
+//   L PICKER k cells limit ceiling bytes   a plan over the pile, with so many cells of scratch and so many plan bytes
 // The picker is `order`, from 0 to 23, `order:` and numbers parted by commas, or `fewest`. After a refused book every line up to
 // the next `E` answers `closed`; a line of another form answers `unread`.
 mod case;
@@ -11,6 +12,7 @@ mod courses;
 mod hex;
 mod numbers;
 mod pile;
+mod plans;
 
 use case::Case;
 use pile::answer;

@@ -4,6 +4,11 @@ use crate::case::Held;
 use crate::case::Kind;
 use crate::courses::Asked;
 use crate::courses::course_by;
+use crate::plans::CentsTold;
+use crate::plans::Sought;
+use crate::plans::Told;
+use crate::plans::WaitsTold;
+use crate::plans::plan_by;
 use books::book::Book;
 use layers::pins::Pins;
 use layers::pins::PinsBook;
@@ -108,7 +113,7 @@ fn set_suspended<B: Book>(
     told(heap, refusal)
 }
 
-fn asked_of<B: Book>(
+fn asked_of<P: Told, B: Book<Cost = P>>(
     heap: Global,
     pile: &mut Pins<Suspensions<B>>,
     fields: &[&str],
@@ -118,6 +123,16 @@ fn asked_of<B: Book>(
         ["U", bay] => set_pin(heap, pile, number(bay), None),
         ["S", rule] => set_suspended(heap, pile, rule, true),
         ["R", rule] => set_suspended(heap, pile, rule, false),
+        ["L", picker, k, cells, limit, ceiling, bytes] => match Sought::parse(
+            k,
+            cells,
+            limit,
+            ceiling,
+            bytes,
+        ) {
+            Some(sought) => plan_by(heap, pile, picker, sought),
+            None => String::from_str(heap, "unread"),
+        },
         ["C", picker, k, cells, lines] => match Asked::parse(k, cells, lines) {
             Some(asked) => course_by(heap, pile, picker, asked),
             None => String::from_str(heap, "unread"),
@@ -127,7 +142,7 @@ fn asked_of<B: Book>(
 }
 
 // Answers over the pile, and keeps what its layers then hold.
-fn over<B: Book + Drop>(
+fn over<P: Told, B: Book<Cost = P> + Drop>(
     heap: Global,
     book: B,
     held: &mut Held,
@@ -148,7 +163,7 @@ fn over<B: Book + Drop>(
     Ok(text)
 }
 
-fn answer_of<P: Stored>(
+fn answer_of<P: Stored + Told>(
     heap: Global,
     bytes: &[u8],
     held: &mut Held,

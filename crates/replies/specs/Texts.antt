@@ -21,3 +21,18 @@ lines-text (l ∷ ls) = line-text l ++ lines-text ls
 
 abbrev pub course-text : List Line → ℕ → List ℕ
 course-text ls n = codes "course" ++ (lines-text ls ++ (codes " forecast " ++ decimal n))
+
+-- numbers, each after a space
+abbrev pub byte-text : ℕ → List ℕ
+byte-text b = codes " " ++ decimal b
+
+abbrev pub bytes-text : List ℕ → List ℕ
+bytes-text [] = []
+bytes-text (b ∷ bs) = byte-text b ++ bytes-text bs
+
+abbrev pub plan-text : List ℕ → ℕ → ℕ → List ℕ
+plan-text plan price visits = codes "plan" ++ (bytes-text plan ++ (codes " price " ++ (decimal price ++ (codes " visits " ++ decimal visits))))
+
+-- a search without a plan: why, and its visits
+abbrev pub ended-text : Refusal → ℕ → List ℕ
+ended-text e visits = refusal-text e ++ (codes " visits " ++ decimal visits)

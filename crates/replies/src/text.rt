@@ -1,6 +1,6 @@
 // The text of each kind of answer.
 ghost use mathlib.Core.Path.{_≡_};
-ghost use Rattle.replies.specs.Texts.{refusal-text, course-text, line-text, lines-text};
+ghost use Rattle.replies.specs.Texts.{refusal-text, course-text, line-text, lines-text, byte-text, bytes-text, plan-text, ended-text};
 ghost use Rattle.std.specs.Of.String.{string-bytes};
 ghost use Rattle.std.specs.Vec.{made};
 use course::line::Line;
@@ -46,4 +46,39 @@ pub fn course_text(heap: Global, lines: &[Line], forecast: u64) -> Result<String
 {
     let lines = lines_text(heap, lines)?;
     format!(heap, "course{lines} forecast {forecast}")
+}
+
+// A number after a space.
+fn byte_text(heap: Global, byte: u8) -> Result<String, AllocError>
+    ensures { λ r. ⌜ made r (λ s. string-bytes s ≡ byte-text byte) ⌝ }
+{
+    format!(heap, " {byte}")
+}
+
+// Bytes as numbers, each after a space.
+fn bytes_text(heap: Global, bytes: &[u8]) -> Result<String, AllocError>
+    ensures { λ r. ⌜ made r (λ s. string-bytes s ≡ bytes-text (now (bytes .entry))) ⌝ }
+{
+    let mut text = String::new(heap);
+    for byte in bytes {
+        let piece = byte_text(heap, *byte)?;
+        text.push_str(piece.as_str())?;
+    }
+    Ok(text)
+}
+
+// The choices of a plan bay by bay, its price and the visits that it took.
+pub fn plan_text(heap: Global, plan: &[u8], price: u32, visits: u32) -> Result<String, AllocError>
+    ensures { λ r. ⌜ made r (λ s. string-bytes s ≡ plan-text (now (plan .entry)) price visits) ⌝ }
+{
+    let choices = bytes_text(heap, plan)?;
+    format!(heap, "plan{choices} price {price} visits {visits}")
+}
+
+// A search that has no plan to tell, with its visits.
+pub fn ended_text(heap: Global, refusal: Refusal, visits: u32) -> Result<String, AllocError>
+    ensures { λ r. ⌜ made r (λ s. string-bytes s ≡ ended-text refusal visits) ⌝ }
+{
+    let text = refusal_text(heap, refusal)?;
+    format!(heap, "{text} visits {visits}")
 }

@@ -1,0 +1,17 @@
+pub mod Kits
+pub mod Members
+pub mod Sizes
+pub mod Readings
+pub mod Tables
+pub mod Tails
+pub mod Flags
+pub mod Steps
+pub mod Folds
+pub mod Settled
+pub mod Standing
+pub mod Deciding
+pub mod Folding
+pub mod Onward
+pub mod Moving
+pub mod Starting
+pub mod Promising

@@ -1,0 +1,5 @@
+pub mod Places
+pub mod Force
+pub mod Visit
+pub mod Start
+pub mod Promise
