@@ -9,7 +9,7 @@ more below m n = rw add-one refl
 pub loop-bay-preserved : goal.loop-bay-preserved
 loop-bay-preserved c =
     let q = c.args.question.now in
-    c.one-more-best.ensures
+    c.one_more-best.ensures
     ∙ ap (λ (x : ℕ). better (below_by c.args.counts q) q.remaining x c.loop-bay.bay) c.loop-bay.invariant
     ∙ more (below_by c.args.counts q) q.remaining c.loop-bay.bay
 

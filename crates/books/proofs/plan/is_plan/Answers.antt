@@ -11,15 +11,15 @@ returns-then-plan-bays g c =
     let past : get_or plan (length plan) 255 ≡ 255 = get_or_past plan (length plan) 255 (omega arith) in
     sym (begins_not m.choices m.bays (length plan) plan (omega arith) (omega arith))
 
-pub returns-then-not-is-choice : goal.returns-then-not-is-choice
-returns-then-not-is-choice g c =
+pub returns-then-not-is_choice : goal.returns-then-not-is_choice
+returns-then-not-is_choice g c =
     let m = g.B.Book.meaning c.args.book.now in
     let plan = c.args.plan.now in
-    let over = ltb-false _ _ (sym c.if-not-is-choice.ensures) in
+    let over = ltb-false _ _ (sym c.if-not-is_choice.ensures) in
     sym (begins_not m.choices m.bays c.loop-bay.bay plan (omega arith) (omega (arith, over, c.choices.ensures, get_or_default plan c.loop-bay.bay 255 0 (omega arith))))
 
 pub loop-bay-preserved : goal.loop-bay-preserved
 loop-bay-preserved g c =
     let m = g.B.Book.meaning c.args.book.now in
-    let below = ltb-true _ _ (sym c.if-not-is-choice.ensures) in
+    let below = ltb-true _ _ (sym c.if-not-is_choice.ensures) in
     begins_next m.choices c.loop-bay.bay c.args.plan.now c.loop-bay.invariant (omega (arith, below, c.choices.ensures, get_or_default c.args.plan.now c.loop-bay.bay 255 0 (omega arith)))

@@ -6,8 +6,8 @@ use Rattle.commands.proofs.Runs.{command_is}
 use Rattle.commands.proofs.Exact.{reads}
 use Rattle.commands.proofs.line.read.Goals as goal
 
-pub returns-in-default : goal.returns-in-default
-returns-in-default c =
+pub returns-in_default : goal.returns-in_default
+returns-in_default c =
     let is : ◌≡◌ {A = Option Command} None (command_in c.args.line.now) = search rules in
     record { is = is; reads = reads c.args.line.now None is }
 

@@ -20,11 +20,11 @@ returns g c =
     let parts = some_cond (le_z (negsuc 0) k && le_z k (pos 4)) c.in-Some.k k (c.in-Some.ensures ∙ ap (λ (z : ℤ). cond (le_z (negsuc 0) z && le_z z (pos 4)) (Some z) None) (to_z-of_z w64 k c.ranges.k)) in
     let k_is : to_z w8 (of_z w8 c.in-Some.k) ≡ k = to_z-of_z w8 c.in-Some.k narrow ∙ parts.1 in
     let room : m.bays ≤ length was = omega (arith, c.bays-bays.ensures) in
-    let lines_are : c.write-lines.new.lines ≡ map written (lines_of m pick k c.args.cells) ++ drop m.bays was =
-    c.write-lines.ensures ∙ ap (λ (x : ℤ). map written (lines_of m pick x c.args.cells) ++ drop m.bays was) k_is in
-    let n_is = answered o m laws pick remains k c.args.cells was parts.0 room c.write-lines.new.lines c.forecast.result c.bays-bays.result c.bays-bays.ensures lines_are c.forecast.ensures in
+    let lines_are : c.write_lines.new.lines ≡ map written (lines_of m pick k c.args.cells) ++ drop m.bays was =
+    c.write_lines.ensures ∙ ap (λ (x : ℤ). map written (lines_of m pick x c.args.cells) ++ drop m.bays was) k_is in
+    let n_is = answered o m laws pick remains k c.args.cells was parts.0 room c.write_lines.new.lines c.forecast.result c.bays-bays.result c.bays-bays.ensures lines_are c.forecast.ensures in
     record {
       answers = ap Ok n_is ∙ replied o m laws pick remains k c.args.cells was parts.0 room;
       writes = lines_are ∙ wrote o m laws pick remains k c.args.cells was parts.0 room;
-      tells = tells o m laws pick remains k c.args.cells was parts.0 room c.write-lines.new.lines c.forecast.result lines_are n_is;
+      tells = tells o m laws pick remains k c.args.cells was parts.0 room c.write_lines.new.lines c.forecast.result lines_are n_is;
     }

@@ -11,8 +11,8 @@ bounds-choices-next g t c =
     let some : 0 < c.args.remaining = some_from_ones c.args.remaining (omega (arith, c.requires.count)) in
     has_below 24 c.args.remaining c.step-next.result.bay c.requires.few (c.step-next.ensures.remains some c.requires.few)
 
-pub overflow-sub-unused : goal.overflow-sub-unused
-overflow-sub-unused g t c = c.step-next.ensures.fits
+pub overflow_sub-unused : goal.overflow_sub-unused
+overflow_sub-unused g t c = c.step-next.ensures.fits
 
 pub fill-requires : goal.fill-requires
 fill-requires g t c κs within =
@@ -39,5 +39,5 @@ returns g t c =
     let d = c.step-next.result in
     let k_is : to_z w8 (of_z w8 c.args.k) ≡ c.args.k = to_z-of_z w8 c.args.k c.ranges.k in
     c.fill.ensures
-    ∙ listed (g.K.Picker.answer c.args.picker.now) c.args.choices.now c.args.k (to_z w8 (of_z w8 c.args.k)) c.args.left (c.args.left - 1) ms c.sets-after.result c.args.remaining c.without.result c.args.unused (c.args.unused - d.used) d c.args.lines.now c.args.at
-    k_is (omega arith) c.step-next.ensures.is c.sets-after.ensures c.without.ensures refl
+    ∙ listed (g.K.Picker.answer c.args.picker.now) c.args.choices.now c.args.k (to_z w8 (of_z w8 c.args.k)) c.args.left (c.args.left - 1) ms c.sets_after.result c.args.remaining c.without.result c.args.unused (c.args.unused - d.used) d c.args.lines.now c.args.at
+    k_is (omega arith) c.step-next.ensures.is c.sets_after.ensures c.without.ensures refl

@@ -23,4 +23,4 @@ forecast-returns-else-line t c =
 
 pub branched-returns : goal.branched-returns
 branched-returns t c =
-    c.saturating-add.ensures ∙ ap (λ (x : ℕ). capped (x + 1)) (c.saturating-mul.ensures ∙ ap (λ (x : ℕ). capped (x * c.args.choices)) c.forecast.ensures) ∙ capped_mul c.args.choices (forecast_of c.args.rest.now)
+    c.saturating_add.ensures ∙ ap (λ (x : ℕ). capped (x + 1)) (c.saturating_mul.ensures ∙ ap (λ (x : ℕ). capped (x * c.args.choices)) c.forecast.ensures) ∙ capped_mul c.args.choices (forecast_of c.args.rest.now)

@@ -9,17 +9,17 @@ use Rattle.layout.proofs.copy.read.Goals as goal
 pub kept-requires : goal.kept-requires
 kept-requires g c =
     let bs = c.args.bytes.now in
-    let p = c.in-ok-index.ensures.finds in
+    let p = c.in_ok-index.ensures.finds in
     record {
       short = omega (arith, p.short, ap (λ (l : List ℕ). length l) (take_rest bs 5), length-drop 5 bs);
-      found = subst (λ (l : List ℕ). Found l c.in-ok-index.index) (sym (take_rest bs 5)) p.found;
+      found = subst (λ (l : List ℕ). Found l c.in_ok-index.index) (sym (take_rest bs 5)) p.found;
     }
 
 pub returns : goal.returns
 returns g c =
     let bs = c.args.bytes.now in
-    let i = c.in-ok-index.index in
-    let p = c.in-ok-index.ensures in
+    let i = c.in_ok-index.index in
+    let p = c.in_ok-index.ensures in
     let same : layout_by (drop 5 bs) i ≡ kept_layout c.kept.result = sym (c.kept.ensures ∙ ap (λ (l : List ℕ). layout_by l i) (take_rest bs 5)) in
     record {
       accepted = subst (λ (L : Layout). FitsBook g.P.Stored.letters g.P.Stored.top L × (bs ≡ book_bytes g.P.Stored.letters L)) same p.means;

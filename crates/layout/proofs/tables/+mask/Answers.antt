@@ -9,4 +9,4 @@ pub returns-in-empty : goal.returns-in-empty
 returns-in-empty t c = mask_none c.args.scope.now (search rules)
 
 pub returns-in-len1-up : goal.returns-in-len1-up
-returns-in-len1-up t c = mask_more c.args.scope.now c.mask.result c.with-bay.result (search rules) c.mask.ensures c.with-bay.ensures
+returns-in-len1-up t c = mask_more c.args.scope.now c.mask.result c.with_bay.result (search rules) c.mask.ensures c.with_bay.ensures

@@ -3,13 +3,13 @@ use Rattle.std.proofs.lemmas.List.{nil_from_length}
 use Rattle.format.specs.House.{cells_in}
 use Rattle.reader.proofs.Tables.{size_more, size_bound, size_small}
 use Rattle.reader.proofs.pieces.+table_size.Goals as goal
-use Rattle.reader.proofs.pieces.+table_size.Goals.{After-table-size}
+use Rattle.reader.proofs.pieces.+table_size.Goals.{After-table_size}
 
-bound : (t : ℕ) (c : After-table-size t) → c.from.result * c.table-size.result ≤ 256 ^ length c.args.scope.now
-bound t c = size_bound c.args.scope.now _ _ (search rules) (omega (arith, c.from.ensures, c.choices-of.type-inv)) c.table-size.ensures.bound
+bound : (t : ℕ) (c : After-table_size t) → c.from.result * c.table_size.result ≤ 256 ^ length c.args.scope.now
+bound t c = size_bound c.args.scope.now _ _ (search rules) (omega (arith, c.from.ensures, c.choices_of.type-inv)) c.table_size.ensures.bound
 
-pub overflow-mul-result : goal.overflow-mul-result
-overflow-mul-result t c =
+pub overflow_mul-result : goal.overflow_mul-result
+overflow_mul-result t c =
     let small = size_small (length c.args.scope.now) _ c.requires (bound t c) in
     search rules
 
@@ -21,6 +21,6 @@ returns-in-empty t c =
 pub returns-in-len1-up : goal.returns-in-len1-up
 returns-in-len1-up t c =
     record {
-      size = size_more c.args.counts.now c.args.scope.now _ _ (search rules) (c.from.ensures ∙ c.choices-of.ensures) c.table-size.ensures.size;
+      size = size_more c.args.counts.now c.args.scope.now _ _ (search rules) (c.from.ensures ∙ c.choices_of.ensures) c.table_size.ensures.size;
       bound = bound t c;
     }

@@ -7,11 +7,11 @@ use Rattle.reader.specs.Finds.{Cells}
 use Rattle.reader.proofs.Steps.{rows_more, places_hold}
 use Rattle.reader.proofs.pieces.rows.Goals as goal
 
-pub returns-in-err-end : goal.returns-in-err-end
-returns-in-err-end c =
-    let p = err_from_is_err_and c.from-residual.result c.from-residual.ensures.1 in
+pub returns-in_err-end : goal.returns-in_err-end
+returns-in_err-end c =
+    let p = err_from_is_err_and c.from_residual.result c.from_residual.ensures.1 in
     let cs = c.args.counts.now in
-    rw (p.1, p.2) (c.loop-i.invariant.3 ∙ after_bad (λ i. times (get_or cs i 0) (cell_of c.args.top)) (λ i _. i + 1) _ (length cs) c.loop-i.i c.loop-i.i _ _ (omega arith) (rw c.from.ensures at c.in-err-end.ensures))
+    rw (p.1, p.2) (c.loop-i.invariant.3 ∙ after_bad (λ i. times (get_or cs i 0) (cell_of c.args.top)) (λ i _. i + 1) _ (length cs) c.loop-i.i c.loop-i.i _ _ (omega arith) (rw c.from.ensures at c.in_err-end.ensures))
 
 pub loop-i-preserved : goal.loop-i-preserved
 loop-i-preserved c =
@@ -20,8 +20,8 @@ loop-i-preserved c =
     let i = c.loop-i.i in
     let own = c.loop-i.own_at in
     let at = c.loop-i.end in
-    let end = c.in-ok-end.end in
-    let one : Cells bs at (get_or cs i 0) c.args.top end = rw c.from.ensures at c.in-ok-end.ensures in
+    let end = c.in_ok-end.end in
+    let one : Cells bs at (get_or cs i 0) c.args.top end = rw c.from.ensures at c.in_ok-end.ensures in
     let lt : i < length own = omega (arith, c.loop-i.invariant.1) in (
       one.inside,
       length-set own i at ∙ c.loop-i.invariant.1,

@@ -6,6 +6,6 @@ use Rattle.reader.proofs.pieces.rows.Given as goal
 
 abbrev pub invariant-loop-i : goal.invariant-loop-i
 invariant-loop-i l =
-    (l.end ≤ length l.body) × (length l.own-at ≡ 24) ×
-    ((j : ℕ) → j < l.i → get_or l.own-at j 0 + 4 * get_or l.counts j 0 ≤ length l.body) ×
-    (prices_in l.top l.counts (drop l.at l.body) ≡ AfterRows l.top l.counts (rows_at l.body l.counts l.own-at l.i) (length l.counts - l.i) l.i (drop l.end l.body))
+    (l.end ≤ length l.body) × (length l.own_at ≡ 24) ×
+    ((j : ℕ) → j < l.i → get_or l.own_at j 0 + 4 * get_or l.counts j 0 ≤ length l.body) ×
+    (prices_in l.top l.counts (drop l.at l.body) ≡ AfterRows l.top l.counts (rows_at l.body l.counts l.own_at l.i) (length l.counts - l.i) l.i (drop l.end l.body))

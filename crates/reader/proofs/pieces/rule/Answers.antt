@@ -12,11 +12,11 @@ pub returns : goal.returns
 returns c =
     let bs = c.args.body.now in
     let cs = c.args.counts.now in
-    let n = c.in-ok-n.n in
-    let table = c.in-ok-table.table in
-    let one = c.in-ok-n.ensures in
-    let two = c.in-ok-table.ensures in
-    let size : c.table-size-size.result ≡ cells_in cs (scope_at bs c.args.at) = c.table-size-size.ensures.size ∙ ap (cells_in cs) (scope_cut bs cs c.args.at n table one two) in
+    let n = c.in_ok-n.n in
+    let table = c.in_ok-table.table in
+    let one = c.in_ok-n.ensures in
+    let two = c.in_ok-table.ensures in
+    let size : c.table_size-size.result ≡ cells_in cs (scope_at bs c.args.at) = c.table_size-size.ensures.size ∙ ap (cells_in cs) (scope_cut bs cs c.args.at n table one two) in
     let all : MatchResult c.cells.result (λ end. Cells bs table (cells_in cs (scope_at bs c.args.at)) c.args.top end) (λ e. times (cells_in cs (scope_at bs c.args.at)) (cell_of c.args.top) (drop table bs) ≡ bad e) =
     subst (λ k. MatchResult c.cells.result (λ end. Cells bs table k c.args.top end) (λ e. times k (cell_of c.args.top) (drop table bs) ≡ bad e)) size c.cells.ensures in
     MatchResult-weaker c.cells.result all

@@ -13,4 +13,4 @@ pub returns-in-Err : goal.returns-in-Err
 returns-in-Err g c =
     let m = g.B.Book.meaning c.args.book.now in
     let w = c.in-Err.ensures.accepts in
-    IfOk-weaker c.refusal-text.result _ _ (λ s e. by_none m c.args.line.now (string_bytes s) c.in-Err.refusal w.0 w.1 e) c.refusal-text.ensures
+    IfOk-weaker c.refusal_text.result _ _ (λ s e. by_none m c.args.line.now (string_bytes s) c.in-Err.refusal w.0 w.1 e) c.refusal_text.ensures

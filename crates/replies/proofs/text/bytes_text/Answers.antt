@@ -9,8 +9,8 @@ loop-byte-preserved c =
     let i = c.loop-byte.byte-index in
     let xs = c.args.bytes.now in
     let lt : i < length xs = omega arith in
-    c.in-ok-push-str.ensures.bytes
-    ∙ ap₂ (λ (s t : List ℕ). s ++ t) c.loop-byte.invariant (c.as-str.ensures.value ∙ c.in-ok-piece.ensures)
+    c.in_ok-push_str.ensures.bytes
+    ∙ ap₂ (λ (s t : List ℕ). s ++ t) c.loop-byte.invariant (c.as_str.ensures.value ∙ c.in_ok-piece.ensures)
     ∙ sym (bytes_more (take i xs) (get_or xs i 0))
     ∙ ap bytes_text (sym (take_more xs i 0 lt))
 

@@ -11,8 +11,8 @@ loop-line-preserved c =
     let xs = c.args.lines.now in
     let d : Line = record { bay = 0; choices = 0; folded = false } in
     let lt : i < length xs = omega arith in
-    c.in-ok-push-str.ensures.bytes
-    ∙ ap₂ (λ (s t : List ℕ). s ++ t) c.loop-line.invariant (c.as-str.ensures.value ∙ c.in-ok-piece.ensures)
+    c.in_ok-push_str.ensures.bytes
+    ∙ ap₂ (λ (s t : List ℕ). s ++ t) c.loop-line.invariant (c.as_str.ensures.value ∙ c.in_ok-piece.ensures)
     ∙ sym (lines_more (take i xs) (get_or xs i d))
     ∙ ap lines_text (sym (take_more xs i d lt))
 

@@ -23,10 +23,10 @@ returns-then-not-lines-last g t c =
     let m = g.B.Book.meaning c.args.book.now in
     let cs = c.args.choices.now in
     let z : c.args.depth ≡ c.args.depth - 1 + 1 = omega arith in
-    c.read-back.ensures ∙ sym (ap (λ (fs : List (Fold _)). read K (byte_of cs) fs (byte_of c.args.plan)) (ap (folds_of K m cs c.args.lines.now c.args.scratch.now) z ∙ folds_out K m cs c.args.lines.now c.args.scratch.now (c.args.depth - 1) c.if-not-lines-last.true))
+    c.read_back.ensures ∙ sym (ap (λ (fs : List (Fold _)). read K (byte_of cs) fs (byte_of c.args.plan)) (ap (folds_of K m cs c.args.lines.now c.args.scratch.now) z ∙ folds_out K m cs c.args.lines.now c.args.scratch.now (c.args.depth - 1) c.if-not-lines-last.true))
 
-pub read-back-requires-2 : goal.read-back-requires-2
-read-back-requires-2 g t c κs within =
+pub read_back-requires-2 : goal.read_back-requires-2
+read_back-requires-2 g t c κs within =
     let K = g.Cost.Price.ops in
     let m = g.B.Book.meaning c.args.book.now in
     let cs = c.args.choices.now in
@@ -46,6 +46,6 @@ returns g t c =
     let l = line_at lines (c.args.depth - 1) in
     let k = c.requires.bays (c.args.depth - 1) (omega arith) c.if-not-lines-last.false in
     let z : c.args.depth ≡ c.args.depth - 1 + 1 = omega arith in
-    c.read-back-2.ensures
+    c.read_back-2.ensures
     ∙ ap (read K (byte_of cs) (folds_of K m cs lines cells (c.args.depth - 1))) (bytes_put c.args.plan l.bay c.settle-settled.result.1 (omega (arith, k.0)) ∙ ap (λ (x : ℕ). put l.bay x (byte_of c.args.plan)) c.settle-settled.ensures.choice)
     ∙ sym (ap (λ (fs : List (Fold _)). read K (byte_of cs) fs (byte_of c.args.plan)) (ap (folds_of K m cs lines cells) z ∙ folds_in K m cs lines cells (c.args.depth - 1) c.if-not-lines-last.false))

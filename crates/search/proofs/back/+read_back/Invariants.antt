@@ -1,4 +1,4 @@
 use Rattle.search.proofs.back.+read_back.Given as goal
 
-abbrev pub decreases-read-back : goal.decreases-read-back
-decreases-read-back g l = l.depth
+abbrev pub decreases-read_back : goal.decreases-read_back
+decreases-read_back g l = l.depth

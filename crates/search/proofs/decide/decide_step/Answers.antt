@@ -15,5 +15,5 @@ returns g c =
     let d = c.step-next.result in
     let narrow : SFits w8 s.k = search rules in
     let is = c.step-next.ensures.is ∙ ap (λ (k : ℤ). decided pick s.choices k c.nears-near.result c.args.remaining (length c.args.scratch.now - c.args.used)) (to_z-of_z w8 s.k narrow) in
-    subst (λ (x : ℕ). Decided K m (answers_of pick) s c.args.remaining c.args.force.now c.args.used c.args.scratch.now d.bay d.folded x d.used) (sym c.neighbours-of.ensures)
+    subst (λ (x : ℕ). Decided K m (answers_of pick) s c.args.remaining c.args.force.now c.args.used c.args.scratch.now d.bay d.folded x d.used) (sym c.neighbours_of.ensures)
     (step_decides K m pick (g.met.K.Picker.remains c.args.picker.now) s c.args.remaining c.args.force.now c.args.used c.args.scratch.now c.nears-near.result c.requires.some c.requires.small c.requires.short c.nears-near.ensures d is)

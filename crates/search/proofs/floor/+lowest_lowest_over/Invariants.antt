@@ -4,5 +4,5 @@ use Rattle.search.proofs.floor.+lowest_lowest_over.Given as goal
 abbrev pub decreases-lowest : goal.decreases-lowest
 decreases-lowest g l = 300 * (24 - l.bay) + 299
 
-abbrev pub decreases-lowest-over : goal.decreases-lowest-over
-decreases-lowest-over g l = 300 * (24 - l.bay) + l.n
+abbrev pub decreases-lowest_over : goal.decreases-lowest_over
+decreases-lowest_over g l = 300 * (24 - l.bay) + l.n

@@ -20,7 +20,7 @@ pub returns-then-not-holds : goal.returns-then-not-holds
 returns-then-not-holds g t c i =
     let m = g.B.Book.meaning c.args.book.now in
     let s = scope_mask m c.args.lines.now c.args.number in
-    let off : has s c.args.bay ≡ mathlib.Core.Bool.false = ap (λ (x : ℕ). has x c.args.bay) (sym c.scope-of-scope.ensures) ∙ sym c.if-not-holds.ensures in
+    let off : has s c.args.bay ≡ mathlib.Core.Bool.false = ap (λ (x : ℕ). has x c.args.bay) (sym c.scope_of-scope.ensures) ∙ sym c.if-not-holds.ensures in
     c.touched-rest.ensures i ∙ sym (ap (any (λ k. has (scope_mask m c.args.lines.now k) c.args.bay && has (scope_mask m c.args.lines.now k) i)) (members_in (flag c.args.force.now) c.args.number 112 (omega arith) c.if-not-force-number.false)
     ∙ ap (λ (x : Bool). (x && has s i) || shares m c.args.lines.now c.args.force.now c.args.bay (c.args.number + 1) i) off)
 
@@ -28,7 +28,7 @@ pub returns : goal.returns
 returns g t c i =
     let m = g.B.Book.meaning c.args.book.now in
     let s = scope_mask m c.args.lines.now c.args.number in
-    let on : has s c.args.bay ≡ mathlib.Core.Bool.true = ap (λ (x : ℕ). has x c.args.bay) (sym c.scope-of-scope.ensures) ∙ sym c.if-not-holds.ensures in
-    has_or c.scope-of-scope.result c.touched-rest.result i ∙ ap₂ (λ (x y : Bool). x || y) (ap (λ (x : ℕ). has x i) c.scope-of-scope.ensures) (c.touched-rest.ensures i)
+    let on : has s c.args.bay ≡ mathlib.Core.Bool.true = ap (λ (x : ℕ). has x c.args.bay) (sym c.scope_of-scope.ensures) ∙ sym c.if-not-holds.ensures in
+    has_or c.scope_of-scope.result c.touched-rest.result i ∙ ap₂ (λ (x y : Bool). x || y) (ap (λ (x : ℕ). has x i) c.scope_of-scope.ensures) (c.touched-rest.ensures i)
     ∙ sym (ap (any (λ k. has (scope_mask m c.args.lines.now k) c.args.bay && has (scope_mask m c.args.lines.now k) i)) (members_in (flag c.args.force.now) c.args.number 112 (omega arith) c.if-not-force-number.false)
     ∙ ap (λ (x : Bool). (x && has s i) || shares m c.args.lines.now c.args.force.now c.args.bay (c.args.number + 1) i) on)

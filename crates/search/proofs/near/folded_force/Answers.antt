@@ -10,8 +10,8 @@ loop-j-preserved g c =
     let m = g.B.Book.meaning c.args.book.now in
     let touch = λ (k : ℕ). has (scope_mask m c.args.lines.now k) c.args.bay in
     elim c.if-holds.branch [
-      | then-holds w ↦ half_drop c.loop-j.out c.args.force.now touch c.loop-j.j c.loop-j.invariant c.if-holds.out (omega arith) w.out-is (ap (λ (x : ℕ). has x c.args.bay) (sym c.scope-of.ensures) ∙ sym w.if-holds.ensures)
-      | else-holds w ↦ half_keep c.loop-j.out c.args.force.now touch c.loop-j.j c.loop-j.invariant c.if-holds.out w.out-is (ap (λ (x : ℕ). has x c.args.bay) (sym c.scope-of.ensures) ∙ sym w.if-holds.ensures)
+      | then-holds w ↦ half_drop c.loop-j.out c.args.force.now touch c.loop-j.j c.loop-j.invariant c.if-holds.out (omega arith) w.out-is (ap (λ (x : ℕ). has x c.args.bay) (sym c.scope_of.ensures) ∙ sym w.if-holds.ensures)
+      | else-holds w ↦ half_keep c.loop-j.out c.args.force.now touch c.loop-j.j c.loop-j.invariant c.if-holds.out w.out-is (ap (λ (x : ℕ). has x c.args.bay) (sym c.scope_of.ensures) ∙ sym w.if-holds.ensures)
     ]
 
 pub returns : goal.returns

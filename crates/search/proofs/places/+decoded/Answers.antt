@@ -9,18 +9,18 @@ use Rattle.search.proofs.places.+decoded.Goals as goal
 pub size-rest-requires : goal.size-rest-requires
 size-rest-requires t c = let e = ap length (members_in (has c.args.set) c.args.bay 24 (omega arith) (sym c.if-holds.ensures)) in record { inside = omega arith; few = c.requires.few; short = omega arith }
 
-pub nonzero-div-next : goal.nonzero-div-next
-nonzero-div-next t c =
+pub nonzero_div-next : goal.nonzero_div-next
+nonzero_div-next t c =
     let s = cut_step c.args.choices.now c.args.set c.args.bay c.args.at (omega arith) (sym c.if-holds.ensures) c.requires.open c.requires.within in
     rw c.size-rest.ensures.is s.pos
 
-pub nonzero-rem-at : goal.nonzero-rem-at
-nonzero-rem-at t c =
+pub nonzero_rem-at : goal.nonzero_rem-at
+nonzero_rem-at t c =
     let s = cut_step c.args.choices.now c.args.set c.args.bay c.args.at (omega arith) (sym c.if-holds.ensures) c.requires.open c.requires.within in
     rw c.size-rest.ensures.is s.pos
 
-pub overflow-cast-next : goal.overflow-cast-next
-overflow-cast-next t c =
+pub overflow_cast-next : goal.overflow_cast-next
+overflow_cast-next t c =
     let s = cut_step c.args.choices.now c.args.set c.args.bay c.args.at (omega arith) (sym c.if-holds.ensures) c.requires.open c.requires.within in
     let d : c.args.at / c.size-rest.result < get_or c.args.choices.now c.args.bay 0 = rw c.size-rest.ensures.is s.digit in
     let k = c.requires.few c.args.bay in

@@ -6,35 +6,35 @@ use Rattle.search.proofs.Sizes.{place_step}
 use Rattle.search.specs.Places.{place, byte_of}
 use Rattle.search.proofs.places.+place.Goals as goal
 
-pub overflow-mul-next : goal.overflow-mul-next
-overflow-mul-next t c =
-    let s = place_step c.args.choices.now c.args.plan.now c.args.set c.args.bay c.args.so-far (omega arith) (sym c.if-holds.ensures) c.requires.open c.requires.legal c.requires.fits in
+pub overflow_mul-next : goal.overflow_mul-next
+overflow_mul-next t c =
+    let s = place_step c.args.choices.now c.args.plan.now c.args.set c.args.bay c.args.so_far (omega arith) (sym c.if-holds.ensures) c.requires.open c.requires.legal c.requires.fits in
     let h = s.product in search rules
 
-pub overflow-add-next : goal.overflow-add-next
-overflow-add-next t c =
-    let s = place_step c.args.choices.now c.args.plan.now c.args.set c.args.bay c.args.so-far (omega arith) (sym c.if-holds.ensures) c.requires.open c.requires.legal c.requires.fits in
+pub overflow_add-next : goal.overflow_add-next
+overflow_add-next t c =
+    let s = place_step c.args.choices.now c.args.plan.now c.args.set c.args.bay c.args.so_far (omega arith) (sym c.if-holds.ensures) c.requires.open c.requires.legal c.requires.fits in
     let h = s.next in search rules
 
 pub place-requires : goal.place-requires
 place-requires t c =
-    let s = place_step c.args.choices.now c.args.plan.now c.args.set c.args.bay c.args.so-far (omega arith) (sym c.if-holds.ensures) c.requires.open c.requires.legal c.requires.fits in
+    let s = place_step c.args.choices.now c.args.plan.now c.args.set c.args.bay c.args.so_far (omega arith) (sym c.if-holds.ensures) c.requires.open c.requires.legal c.requires.fits in
     (search rules, (omega arith, (c.requires.open, (c.requires.legal, s.fits))))
 
 pub place-requires-else-init : goal.place-requires-else-init
 place-requires-else-init t c =
     let e = members_out (has c.args.set) c.args.bay 24 (omega arith) (sym c.if-holds.ensures) in
-    (search rules, (omega arith, (c.requires.open, (c.requires.legal, subst (λ (bs : List ℕ). (c.args.so-far + 1) * product (byte_of c.args.choices.now) bs ≤ 4096) e c.requires.fits))))
+    (search rules, (omega arith, (c.requires.open, (c.requires.legal, subst (λ (bs : List ℕ). (c.args.so_far + 1) * product (byte_of c.args.choices.now) bs ≤ 4096) e c.requires.fits))))
 
 pub returns-then-holds : goal.returns-then-holds
 returns-then-holds t c =
     let e = members_in (has c.args.set) c.args.bay 24 (omega arith) (sym c.if-holds.ensures) in
-    c.place.ensures ∙ sym (ap (λ (bs : List ℕ). place (byte_of c.args.choices.now) c.args.so-far bs (byte_of c.args.plan.now)) e)
+    c.place.ensures ∙ sym (ap (λ (bs : List ℕ). place (byte_of c.args.choices.now) c.args.so_far bs (byte_of c.args.plan.now)) e)
 
 pub returns-else-holds : goal.returns-else-holds
 returns-else-holds t c =
     let e = members_out (has c.args.set) c.args.bay 24 (omega arith) (sym c.if-holds.ensures) in
-    c.place-else-holds.ensures ∙ sym (ap (λ (bs : List ℕ). place (byte_of c.args.choices.now) c.args.so-far bs (byte_of c.args.plan.now)) e)
+    c.place-else-holds.ensures ∙ sym (ap (λ (bs : List ℕ). place (byte_of c.args.choices.now) c.args.so_far bs (byte_of c.args.plan.now)) e)
 
 pub returns-then-bay-ge24 : goal.returns-then-bay-ge24
-returns-then-bay-ge24 t c = sym (ap (λ (bs : List ℕ). place (byte_of c.args.choices.now) c.args.so-far bs (byte_of c.args.plan.now)) (members_end (has c.args.set) c.args.bay 24 (omega arith)))
+returns-then-bay-ge24 t c = sym (ap (λ (bs : List ℕ). place (byte_of c.args.choices.now) c.args.so_far bs (byte_of c.args.plan.now)) (members_end (has c.args.set) c.args.bay 24 (omega arith)))

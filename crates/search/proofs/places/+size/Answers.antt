@@ -12,8 +12,8 @@ size-requires t c = let e = ap length (members_in (has c.args.set) c.args.bay 24
 pub size-requires-else-init : goal.size-requires-else-init
 size-requires-else-init t c = let e = ap length (members_out (has c.args.set) c.args.bay 24 (omega arith) (sym c.if-holds.ensures)) in (search rules, (omega arith, (c.requires.few, omega arith)))
 
-pub overflow-mul-result : goal.overflow-mul-result
-overflow-mul-result t c =
+pub overflow_mul-result : goal.overflow_mul-result
+overflow_mul-result t c =
     let e = ap length (members_in (has c.args.set) c.args.bay 24 (omega arith) (sym c.if-holds.ensures)) in
     let l = length (bays_from c.args.set (c.args.bay + 1)) in
     let k : get_or c.args.choices.now c.args.bay 0 * c.size.result ≤ 8 ^ suc l = size_step _ c.size.result l (c.requires.few c.args.bay) c.size.ensures.small in

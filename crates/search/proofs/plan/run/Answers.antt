@@ -24,18 +24,18 @@ visit-stopped-requires g c =
     let K = g.P.Price.ops in
     let m = g.B.Book.meaning c.args.book.now in
     let laws = g.met.B.Book.lawful c.args.book.now in
-    let s = c.open-search-s.result in
-    let se = c.open-search-s.ensures in
-    let cs = c.choices-of.result in
-    let mask = c.first-bays.result in
-    let force = c.start-force-force.result in
-    let fits = c.choices-of.ensures in
-    let all : mask ≡ 2 ^ m.bays - 1 = c.first-bays.ensures ∙ ap (λ (x : ℕ). 2 ^ x - 1) c.bays-bays.ensures in
-    let h = λ (j : ℕ) (l : j < 112). c.start-force-force.ensures j l ∙ ap₂ (λ (x y : ℕ). starts x y j) c.bays-bays.ensures c.rules.ensures in
+    let s = c.open_search-s.result in
+    let se = c.open_search-s.ensures in
+    let cs = c.choices_of.result in
+    let mask = c.first_bays.result in
+    let force = c.start_force-force.result in
+    let fits = c.choices_of.ensures in
+    let all : mask ≡ 2 ^ m.bays - 1 = c.first_bays.ensures ∙ ap (λ (x : ℕ). 2 ^ x - 1) c.bays-bays.ensures in
+    let h = λ (j : ℕ) (l : j < 112). c.start_force-force.ensures j l ∙ ap₂ (λ (x y : ℕ). starts x y j) c.bays-bays.ensures c.rules.ensures in
     let k_is : s.k ≡ c.args.k = search rules in
     let none_yet : ChoicesOk cs s.lines s.depth = λ e l _. absurd (omega (arith, se.depth)) in
     record {
-      ok = make_state m s cs s.depth mask force 0 (length c.args.scratch.now) se.choices fits (subst (Sound cs) (sym se.lines) (c.blank-lines.ensures cs))
+      ok = make_state m s cs s.depth mask force 0 (length c.args.scratch.now) se.choices fits (subst (Sound cs) (sym se.lines) (c.blank_lines.ensures cs))
           (few_start K m laws cs fits) none_yet (open_start K m laws cs fits mask all) (small_start K m laws cs fits mask all)
           (omega (arith, se.depth, length_members (has mask) 0 24)) (subst (λ (z : ℤ). le_z z (pos 4) ≡ true) (sym k_is) c.requires) (omega arith)
           (subst (λ (d : ℕ). Tabled s.lines d force) (sym se.depth) (tabled_start K m laws cs fits s.lines force (omega arith) h)) (subst (λ (d : ℕ). Stack cs s.lines d 0) (sym se.depth) (stack_start K m laws cs fits s.lines));
@@ -47,15 +47,15 @@ returns g c =
     let m = g.B.Book.meaning c.args.book.now in
     let pick = answers_of (g.K.Picker.answer c.args.picker.now) in
     let laws = g.met.B.Book.lawful c.args.book.now in
-    let s = c.open-search-s.result in
-    let se = c.open-search-s.ensures in
-    let cs = c.choices-of.result in
-    let mask = c.first-bays.result in
-    let force = c.start-force-force.result in
-    let fits = c.choices-of.ensures in
+    let s = c.open_search-s.result in
+    let se = c.open_search-s.ensures in
+    let cs = c.choices_of.result in
+    let mask = c.first_bays.result in
+    let force = c.start_force-force.result in
+    let fits = c.choices_of.ensures in
     let cells = c.args.scratch.now in
-    let all : mask ≡ 2 ^ m.bays - 1 = c.first-bays.ensures ∙ ap (λ (x : ℕ). 2 ^ x - 1) c.bays-bays.ensures in
-    let h = λ (j : ℕ) (l : j < 112). c.start-force-force.ensures j l ∙ ap₂ (λ (x y : ℕ). starts x y j) c.bays-bays.ensures c.rules.ensures in
+    let all : mask ≡ 2 ^ m.bays - 1 = c.first_bays.ensures ∙ ap (λ (x : ℕ). 2 ^ x - 1) c.bays-bays.ensures in
+    let h = λ (j : ℕ) (l : j < 112). c.start_force-force.ensures j l ∙ ap₂ (λ (x y : ℕ). starts x y j) c.bays-bays.ensures c.rules.ensures in
     let k_is : s.k ≡ c.args.k = search rules in
     let n = length (bays_from mask 0) in
     c.visit-stopped.ensures.state n (le_refl n)

@@ -28,7 +28,7 @@ returns-then-not-holds g t c =
     let us = terms_from K m c.args.choices.now c.args.lines.now c.args.scratch.now c.args.force.now (c.args.number + 1) in
     c.charge-rest.ensures ∙ sym (ap (λ (ts : List (Term _)). cost K (touching b ts) π)
     (terms_in K m c.args.choices.now c.args.lines.now c.args.scratch.now c.args.force.now c.args.number (omega arith) c.if-not-force-number.false)
-    ∙ touching_out K b u us π (ap (λ (x : ℕ). has x b) (sym c.scope-of.ensures) ∙ sym c.if-not-holds.ensures))
+    ∙ touching_out K b u us π (ap (λ (x : ℕ). has x b) (sym c.scope_of.ensures) ∙ sym c.if-not-holds.ensures))
 
 pub returns : goal.returns
 returns g t c =
@@ -38,6 +38,6 @@ returns g t c =
     let π = byte_of c.args.plan.now in
     let u = term K m c.args.choices.now c.args.lines.now c.args.scratch.now c.args.number in
     let us = terms_from K m c.args.choices.now c.args.lines.now c.args.scratch.now c.args.force.now (c.args.number + 1) in
-    c.combine.ensures ∙ ap₂ K.combine c.value-of.ensures c.charge-rest.ensures ∙ sym (ap (λ (ts : List (Term _)). cost K (touching b ts) π)
+    c.combine.ensures ∙ ap₂ K.combine c.value_of.ensures c.charge-rest.ensures ∙ sym (ap (λ (ts : List (Term _)). cost K (touching b ts) π)
     (terms_in K m c.args.choices.now c.args.lines.now c.args.scratch.now c.args.force.now c.args.number (omega arith) c.if-not-force-number.false)
-    ∙ touching_in K b u us π (ap (λ (x : ℕ). has x b) (sym c.scope-of.ensures) ∙ sym c.if-not-holds.ensures))
+    ∙ touching_in K b u us π (ap (λ (x : ℕ). has x b) (sym c.scope_of.ensures) ∙ sym c.if-not-holds.ensures))

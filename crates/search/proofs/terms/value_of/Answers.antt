@@ -12,6 +12,6 @@ returns-then-number-lt88 g c = c.price.ensures ∙ value_rule g.Cost.Price.ops (
 pub returns-else-number-lt88 : goal.returns-else-number-lt88
 returns-else-number-lt88 g c =
     let l = line_at c.args.lines.now (c.args.number - 88) in
-    c.cell-at.ensures
+    c.cell_at.ensures
     ∙ ap (λ (x : ℕ). get_or (block c.args.scratch.now l) x g.Cost.Price.ops.forbidden) c.place-at.ensures
     ∙ value_table g.Cost.Price.ops (g.B.Book.meaning c.args.book.now) (g.met.B.Book.lawful c.args.book.now) c.args.choices.now c.requires.fits c.args.lines.now c.args.scratch.now c.args.number c.args.plan.now (omega arith)

@@ -5,7 +5,7 @@ use Rattle.layout.proofs.view.View.scope.Goals as goal
 pub mask-requires : goal.mask-requires
 mask-requires c =
     let x = c.args.self.now in
-    subst (λ (l : List ℕ). (i : ℕ) → i < length l → get_or l i 0 < 24) (sym c.scope-of.ensures)
+    subst (λ (l : List ℕ). (i : ℕ) → i < length l → get_or l i 0 < 24) (sym c.scope_of.ensures)
     (λ i h. omega (arith, scope_within x.body.now x.index.now x.found c.args.rule c.if-rule-self.true i h, few_bays x.body.now x.index.now x.found))
 
 pub returns-else-rule-self : goal.returns-else-rule-self

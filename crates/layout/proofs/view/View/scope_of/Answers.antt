@@ -3,8 +3,8 @@ use Rattle.format.specs.House.{Rule}
 use Rattle.layout.specs.Places.{few_rules, rule_inside, rule_is}
 use Rattle.layout.proofs.view.View.scope_of.Goals as goal
 
-pub offset-bounds-self-rule : goal.offset-bounds-self-rule
-offset-bounds-self-rule c = let x = c.args.self.now in omega (arith, few_rules x.body.now x.index.now x.found)
+pub offset_bounds-self-rule : goal.offset_bounds-self-rule
+offset_bounds-self-rule c = let x = c.args.self.now in omega (arith, few_rules x.body.now x.index.now x.found)
 
 pub bounds-self-rule : goal.bounds-self-rule
 bounds-self-rule c = let x = c.args.self.now in omega (arith, few_rules x.body.now x.index.now x.found)
@@ -12,17 +12,17 @@ bounds-self-rule c = let x = c.args.self.now in omega (arith, few_rules x.body.n
 pub bounds-self-at : goal.bounds-self-at
 bounds-self-at c = let x = c.args.self.now in omega (arith, rule_inside x.body.now x.index.now x.found c.args.rule c.requires)
 
-pub overflow-add-result : goal.overflow-add-result
-overflow-add-result c = let x = c.args.self.now in omega (arith, rule_inside x.body.now x.index.now x.found c.args.rule c.requires)
+pub overflow_add-result : goal.overflow_add-result
+overflow_add-result c = let x = c.args.self.now in omega (arith, rule_inside x.body.now x.index.now x.found c.args.rule c.requires)
 
-pub overflow-add-result-2 : goal.overflow-add-result-2
-overflow-add-result-2 c = let x = c.args.self.now in omega (arith, rule_inside x.body.now x.index.now x.found c.args.rule c.requires)
+pub overflow_add-result-2 : goal.overflow_add-result-2
+overflow_add-result-2 c = let x = c.args.self.now in omega (arith, rule_inside x.body.now x.index.now x.found c.args.rule c.requires)
 
-pub overflow-add-result-3 : goal.overflow-add-result-3
-overflow-add-result-3 c = let x = c.args.self.now in omega (arith, rule_inside x.body.now x.index.now x.found c.args.rule c.requires, c.from-n.ensures)
+pub overflow_add-result-3 : goal.overflow_add-result-3
+overflow_add-result-3 c = let x = c.args.self.now in omega (arith, rule_inside x.body.now x.index.now x.found c.args.rule c.requires, c.from-n.ensures)
 
-pub slice-bounds-result-end : goal.slice-bounds-result-end
-slice-bounds-result-end c =
+pub slice_bounds-result-end : goal.slice_bounds-result-end
+slice_bounds-result-end c =
     let x = c.args.self.now in
     let h : get_or x.index.now.rule_at c.args.rule 0 + 1 + c.from-n.result ≤ length x.body.now = omega (arith, rule_inside x.body.now x.index.now x.found c.args.rule c.requires, c.from-n.ensures) in
     search rules

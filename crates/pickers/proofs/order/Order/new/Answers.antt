@@ -6,11 +6,11 @@ use Rattle.model.specs.Lists.{times}
 use Rattle.pickers.specs.Perms.{permutes_is}
 use Rattle.pickers.proofs.order.Order.new.Goals as goal
 
-pub returns-in-default : goal.returns-in-default
-returns-in-default c = let xs = c.args.list.now in (and_left _ (every 24 (λ b. eqb (times b xs) 1)) (ne_eqb (length xs) 24 c.in-default.ensures.1), refl)
+pub returns-in_default : goal.returns-in_default
+returns-in_default c = let xs = c.args.list.now in (and_left _ (every 24 (λ b. eqb (times b xs) 1)) (ne_eqb (length xs) 24 c.in_default.ensures.1), refl)
 
-pub invariant-of-result : goal.invariant-of-result
-invariant-of-result c = let w = c.in-Ok.ensures.1 in (permutes_is c.in-Ok.bays (ap length w.same ∙ w.long) ∙ eq-eqb _ _ (sym c.gathered.ensures ∙ c.if-gathered-eq16777215.true), tt)
+pub invariant_of-result : goal.invariant_of-result
+invariant_of-result c = let w = c.in-Ok.ensures.1 in (permutes_is c.in-Ok.bays (ap length w.same ∙ w.long) ∙ eq-eqb _ _ (sym c.gathered.ensures ∙ c.if-gathered-eq16777215.true), tt)
 
 pub returns-then-gathered-eq16777215 : goal.returns-then-gathered-eq16777215
 returns-then-gathered-eq16777215 c =

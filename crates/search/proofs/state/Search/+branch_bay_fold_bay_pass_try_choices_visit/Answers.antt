@@ -21,8 +21,8 @@ use Rattle.search.proofs.Moving.{sofar_same, setup_same, visit_at, each_at, bran
 use Rattle.search.proofs.Folding.{fold_core}
 use Rattle.search.proofs.state.Search.+branch_bay_fold_bay_pass_try_choices_visit.Goals as goal
 
-pub branch-bay-try-choices-stopped-requires : goal.branch-bay-try-choices-stopped-requires
-branch-bay-try-choices-stopped-requires g t c κs within =
+pub branch_bay-try_choices-stopped-requires : goal.branch_bay-try_choices-stopped-requires
+branch_bay-try_choices-stopped-requires g t c κs within =
     let m = g.B.Book.meaning c.args.book.now in
     let a = c.args.self.now in
     let p = c.push.new.self in
@@ -55,17 +55,17 @@ branch-bay-try-choices-stopped-requires g t c κs within =
       ),
     )
 
-pub branch-bay-returns : goal.branch-bay-returns
-branch-bay-returns g t c =
+pub branch_bay-returns : goal.branch_bay-returns
+branch_bay-returns g t c =
     let K = g.P.Price.ops in
     let m = g.B.Book.meaning c.args.book.now in
     let pick = answers_of (g.K.Picker.answer c.args.picker.now) in
     let a = c.args.self.now in
     let p = c.push.new.self in
-    let v = c.try-choices-stopped.new.self in
+    let v = c.try_choices-stopped.new.self in
     let q = c.pop.new.self in
     let pe = c.push.ensures in
-    let x = c.try-choices-stopped.ensures in
+    let x = c.try_choices-stopped.ensures in
     let f = x.framed in
     let qe = c.pop.ensures in
     let st = c.requires.ok in
@@ -75,7 +75,7 @@ branch-bay-returns g t c =
     let keeps : Kept a.lines p.lines a.depth = subst (λ (ls : List Line). Kept a.lines ls a.depth) (sym pe.lines) (set_kept a.lines a.depth _) in
     let keeps' : Kept p.lines v.lines a.depth = subst (λ (n : ℕ). Kept p.lines v.lines n) d f.kept in
     record {
-      state = λ n h. sofar_same v q c.try-choices-stopped.result qe.same ∙ x.state n h
+      state = λ n h. sofar_same v q c.try_choices-stopped.result qe.same ∙ x.state n h
           ∙ each_at (setup_of K a.choices pick a.k a.limit) _ n (bays_from c.args.rest 0) (terms_from K m a.choices a.lines cells force 0) _ (length cells - c.args.used) _ c.args.bay (set_in a.lines a.depth) _ (folds_of K m a.choices a.lines cells a.depth) _ (get_or a.choices c.args.bay 0) _ (sofar a false) _
           (setup_same K pick a.choices p.choices a.k p.k a.limit p.limit pe.same.choices pe.same.k pe.same.limit)
           (ap (λ (y : List ℕ). terms_from K m y p.lines cells force 0) pe.same.choices ∙ terms_kept K m a.choices a.lines p.lines cells cells a.depth c.args.used st.stack keeps refl force st.tabled)
@@ -95,8 +95,8 @@ branch-bay-returns g t c =
       cells = x.cells;
     }
 
-pub fold-bay-fill-requires : goal.fold-bay-fill-requires
-fold-bay-fill-requires g t c =
+pub fold_bay-fill-requires : goal.fold_bay-fill-requires
+fold_bay-fill-requires g t c =
     let a = c.args.self.now in
     let st = c.requires.ok in
     let in_left = members_sound (has c.args.remaining) c.args.next.bay 0 24 c.requires.remains in
@@ -105,7 +105,7 @@ fold-bay-fill-requires g t c =
       some = st.opened c.args.next.bay in_left.0;
       few = st.few;
       ready = st.ready;
-      legal = set_ok_in a.choices a.lines a.depth c.choices-set-set.result st.legal c.choices-set-set.ensures;
+      legal = set_ok_in a.choices a.lines a.depth c.choices_set-set.result st.legal c.choices_set-set.ensures;
       opened = λ i e. st.opened i (both_left (has c.args.remaining i) _ (sym (c.requires.nears i) ∙ e));
       short = c.requires.short;
       whole = c.requires.whole;
@@ -113,19 +113,19 @@ fold-bay-fill-requires g t c =
       under = λ j on h l. let k = st.tabled j on h in st.stack.tables (j - 88) k.0 k.1;
     }
 
-pub fold-bay-folded-force-after-requires : goal.fold-bay-folded-force-after-requires
-fold-bay-folded-force-after-requires g t c =
+pub fold_bay-folded_force-after-requires : goal.fold_bay-folded_force-after-requires
+fold_bay-folded_force-after-requires g t c =
     let in_left = members_sound (has c.args.remaining) c.args.next.bay 0 24 c.requires.remains in
     let less = drop_fewer c.args.next.bay (bays_from c.args.remaining 0) c.requires.remains in
     record { bay = omega (arith, in_left.2); deep = omega (arith, less, c.requires.ok.deep) }
 
-pub fold-bay-push-requires : goal.fold-bay-push-requires
-fold-bay-push-requires g t c =
+pub fold_bay-push-requires : goal.fold_bay-push-requires
+fold_bay-push-requires g t c =
     let less = drop_fewer c.args.next.bay (bays_from c.args.remaining 0) c.requires.remains in
     omega (arith, less, c.requires.ok.deep)
 
-pub fold-bay-visit-stopped-requires : goal.fold-bay-visit-stopped-requires
-fold-bay-visit-stopped-requires g t c κs within =
+pub fold_bay-visit-stopped-requires : goal.fold_bay-visit-stopped-requires
+fold_bay-visit-stopped-requires g t c κs within =
     let m = g.B.Book.meaning c.args.book.now in
     let a = c.args.self.now in
     let p = c.push.new.self in
@@ -143,18 +143,18 @@ fold-bay-visit-stopped-requires g t c κs within =
             within.1.1.0,
             (
               within.1.1.1,
-              fold_state g.P.Price.ops m a p next.bay next.near next.size c.args.remaining c.args.rest c.args.force.now c.folded-force-after.result c.args.used (length c.fill.new.scratch)
+              fold_state g.P.Price.ops m a p next.bay next.near next.size c.args.remaining c.args.rest c.args.force.now c.folded_force-after.result c.args.used (length c.fill.new.scratch)
                   (record { ready = st.ready; few = st.few; legal = st.legal; opened = st.opened; small = st.small; deep = st.deep; short = st.short; room = omega (arith, st.room); tabled = st.tabled; stack = st.stack }) (omega (arith, less, st.deep)) pe.depth pe.lines
                   (record { choices = pe.same.choices; best = pe.same.best; found = pe.same.found; plan = pe.same.plan; count = pe.same.count; limit = pe.same.limit; k = pe.same.k })
-                  (omega (arith, in_left.2)) (st.opened next.bay in_left.0) (λ i e. st.opened i (both_left (has c.args.remaining i) _ (sym (c.requires.nears i) ∙ e))) c.requires.opened c.requires.small c.requires.short c.requires.whole (omega (arith, c.requires.fits, st.room)) c.folded-force-after.ensures,
+                  (omega (arith, in_left.2)) (st.opened next.bay in_left.0) (λ i e. st.opened i (both_left (has c.args.remaining i) _ (sym (c.requires.nears i) ∙ e))) c.requires.opened c.requires.small c.requires.short c.requires.whole (omega (arith, c.requires.fits, st.room)) c.folded_force-after.ensures,
             ),
           ),
         ),
       ),
     )
 
-pub fold-bay-returns : goal.fold-bay-returns
-fold-bay-returns g t c =
+pub fold_bay-returns : goal.fold_bay-returns
+fold_bay-returns g t c =
     let K = g.P.Price.ops in
     let m = g.B.Book.meaning c.args.book.now in
     let pick = answers_of (g.K.Picker.answer c.args.picker.now) in
@@ -179,22 +179,22 @@ fold-bay-returns g t c =
     let at : line_at p.lines a.depth ≡ line = ap (λ (ls : List Line). line_at ls a.depth) pe.lines ∙ set_at a.lines a.depth line inside in
     let keeps : Kept a.lines p.lines a.depth = subst (λ (ls : List Line). Kept a.lines ls a.depth) (sym pe.lines) (set_kept a.lines a.depth line) in
     let low : a.depth ≤ p.depth = omega (arith, pe.depth) in
-    let set = c.choices-set-set.result in
-    let legal = set_ok_in a.choices a.lines a.depth set st.legal c.choices-set-set.ensures in
+    let set = c.choices_set-set.result in
+    let legal = set_ok_in a.choices a.lines a.depth set st.legal c.choices_set-set.ensures in
     let ts = terms_from K m a.choices a.lines cells force 0 in
     record {
       state = λ n h. sofar_same v q c.visit-stopped.result qe.same ∙ x.state n h
-          ∙ visit_at (setup_of K a.choices pick a.k a.limit) _ n (bays_from c.args.rest 0) (terms_from K m a.choices p.lines cells' c.folded-force-after.result 0) _ (length cells - used - next.size) _ (byte_of set) _ (folds_of K m a.choices p.lines cells' (a.depth + 1)) _ (sofar a false) _
+          ∙ visit_at (setup_of K a.choices pick a.k a.limit) _ n (bays_from c.args.rest 0) (terms_from K m a.choices p.lines cells' c.folded_force-after.result 0) _ (length cells - used - next.size) _ (byte_of set) _ (folds_of K m a.choices p.lines cells' (a.depth + 1)) _ (sofar a false) _
           (setup_same K pick a.choices p.choices a.k p.k a.limit p.limit pe.same.choices pe.same.k pe.same.limit)
-          (ap (λ (y : List ℕ). terms_from K m y p.lines cells' c.folded-force-after.result 0) pe.same.choices)
+          (ap (λ (y : List ℕ). terms_from K m y p.lines cells' c.folded_force-after.result 0) pe.same.choices)
           (omega arith)
-          (ap (set_in p.lines) pe.depth ∙ set_folded p.lines a.depth (ap (λ (l : Line). l.folded) at) ∙ set_kept_in a.lines p.lines a.depth keeps a.depth (le_refl _) ∙ sym c.choices-set-set.ensures)
+          (ap (set_in p.lines) pe.depth ∙ set_folded p.lines a.depth (ap (λ (l : Line). l.folded) at) ∙ set_kept_in a.lines p.lines a.depth keeps a.depth (le_refl _) ∙ sym c.choices_set-set.ensures)
           (ap (λ (y : List ℕ). folds_of K m y p.lines cells' p.depth) pe.same.choices ∙ ap (folds_of K m a.choices p.lines cells') pe.depth)
           (sofar_same a p false (record { choices = pe.same.choices; best = pe.same.best; found = pe.same.found; plan = pe.same.plan; count = pe.same.count; limit = pe.same.limit; k = pe.same.k }))
-          ∙ fold_core K m a.choices a.lines p.lines cells cells' a.depth used next.bay next.near next.size c.args.remaining force c.folded-force-after.result set
-          (omega (arith, c.choices-set-set.type-inv)) st.opened legal deep st.tabled st.stack keeps at c.fill.ensures.kept c.fill.ensures.table c.folded-force-after.ensures c.requires.remains c.requires.nears c.requires.whole
+          ∙ fold_core K m a.choices a.lines p.lines cells cells' a.depth used next.bay next.near next.size c.args.remaining force c.folded_force-after.result set
+          (omega (arith, c.choices_set-set.type-inv)) st.opened legal deep st.tabled st.stack keeps at c.fill.ensures.kept c.fill.ensures.table c.folded_force-after.ensures c.requires.remains c.requires.nears c.requires.whole
           pick a.k a.limit n c.args.rest (length cells - used - next.size) (sofar a false) c.requires.rests
-          ∙ ap (λ (σ : Plan). visit (setup_of K a.choices pick a.k a.limit) n (bays_from c.args.rest 0) (folded K (byte_of a.choices) next.bay ts) (length cells - used - next.size) σ (record { bay = next.bay; terms = ts } ∷ folds_of K m a.choices a.lines cells a.depth) (sofar a false)) c.choices-set-set.ensures;
+          ∙ ap (λ (σ : Plan). visit (setup_of K a.choices pick a.k a.limit) n (bays_from c.args.rest 0) (folded K (byte_of a.choices) next.bay ts) (length cells - used - next.size) σ (record { bay = next.bay; terms = ts } ∷ folds_of K m a.choices a.lines cells a.depth) (sofar a false)) c.choices_set-set.ensures;
       framed = record {
         choices = qe.same.choices ∙ f.choices ∙ pe.same.choices;
         depth = omega (arith, qe.depth, f.depth, pe.depth);
@@ -206,10 +206,10 @@ fold-bay-returns g t c =
       cells = sym (take-take used (used + next.size) c.visit-stopped.new.scratch (omega arith)) ∙ ap (take used) x.cells ∙ take-take used (used + next.size) cells' (omega arith) ∙ c.fill.ensures.kept;
     }
 
-pub pass-fold-bay-requires : goal.pass-fold-bay-requires
-pass-fold-bay-requires g t c κs within =
-    let b = c.decide-step-next.result.bay in
-    let de = c.decide-step-next.ensures in
+pub pass-fold_bay-requires : goal.pass-fold_bay-requires
+pass-fold_bay-requires g t c κs within =
+    let b = c.decide_step-next.result.bay in
+    let de = c.decide_step-next.ensures in
     let lt : b < 24 = omega (arith, (members_sound (has c.args.remaining) b 0 24 de.bay_in).2) in
     let less = rest_less c.args.remaining b c.without-rest.result c.without-rest.ensures de.bay_in in
     let on = c.if-next.true in (
@@ -229,10 +229,10 @@ pass-fold-bay-requires g t c κs within =
       ),
     )
 
-pub pass-branch-bay-requires : goal.pass-branch-bay-requires
-pass-branch-bay-requires g t c κs within =
-    let b = c.decide-step-next.result.bay in
-    let de = c.decide-step-next.ensures in
+pub pass-branch_bay-requires : goal.pass-branch_bay-requires
+pass-branch_bay-requires g t c κs within =
+    let b = c.decide_step-next.result.bay in
+    let de = c.decide_step-next.ensures in
     let st = c.requires.ok in
     let lt : b < 24 = omega (arith, (members_sound (has c.args.remaining) b 0 24 de.bay_in).2) in
     let less = rest_less c.args.remaining b c.without-rest.result c.without-rest.ensures de.bay_in in (
@@ -262,8 +262,8 @@ pass-returns-then-next g t c =
     let pick = answers_of (g.K.Picker.answer c.args.picker.now) in
     let a = c.args.self.now in
     let cells = c.args.scratch.now in
-    let b = c.decide-step-next.result.bay in
-    let de = c.decide-step-next.ensures in
+    let b = c.decide_step-next.result.bay in
+    let de = c.decide_step-next.ensures in
     let on = c.if-next.true in
     let lt : b < 24 = omega (arith, (members_sound (has c.args.remaining) b 0 24 de.bay_in).2) in
     let less = rest_less c.args.remaining b c.without-rest.result c.without-rest.ensures de.bay_in in
@@ -273,8 +273,8 @@ pass-returns-then-next g t c =
     let unused = length cells - c.args.used in
     let σ = set_in a.lines a.depth in
     let left = bays_from c.args.remaining 0 in
-    let whole = product (byte_of a.choices) (bays_from c.decide-step-next.result.near 0) in
-    let x = c.fold-bay.ensures in
+    let whole = product (byte_of a.choices) (bays_from c.decide_step-next.result.near 0) in
+    let x = c.fold_bay.ensures in
     record {
       state = λ n h. x.state n (omega arith)
           ∙ ap₂ (λ (l : List ℕ) (y : ℕ). visit S n l (folded K (byte_of a.choices) b ts) (unused - y) σ (record { bay = b; terms = ts } ∷ folds) (sofar a false)) (rest_list c.args.remaining b c.without-rest.result c.without-rest.ensures) (de.whole on)
@@ -291,8 +291,8 @@ pass-returns-else-next g t c =
     let pick = answers_of (g.K.Picker.answer c.args.picker.now) in
     let a = c.args.self.now in
     let cells = c.args.scratch.now in
-    let b = c.decide-step-next.result.bay in
-    let de = c.decide-step-next.ensures in
+    let b = c.decide_step-next.result.bay in
+    let de = c.decide_step-next.ensures in
     let off = c.if-next.false in
     let lt : b < 24 = omega (arith, (members_sound (has c.args.remaining) b 0 24 de.bay_in).2) in
     let less = rest_less c.args.remaining b c.without-rest.result c.without-rest.ensures de.bay_in in
@@ -302,8 +302,8 @@ pass-returns-else-next g t c =
     let unused = length cells - c.args.used in
     let σ = set_in a.lines a.depth in
     let left = bays_from c.args.remaining 0 in
-    let whole = product (byte_of a.choices) (bays_from c.decide-step-next.result.near 0) in
-    let x = c.branch-bay.ensures in
+    let whole = product (byte_of a.choices) (bays_from c.decide_step-next.result.near 0) in
+    let x = c.branch_bay.ensures in
     record {
       state = λ n h. x.state n (omega arith)
           ∙ ap (λ (l : List ℕ). each (get_or a.choices b 0) (λ y. visit S n l ts unused (put b y σ) folds) (sofar a false)) (rest_list c.args.remaining b c.without-rest.result c.without-rest.ensures)
@@ -313,13 +313,13 @@ pass-returns-else-next g t c =
       cells = x.cells;
     }
 
-pub try-choices-returns-then-try-choices : goal.try-choices-returns-then-try-choices
-try-choices-returns-then-try-choices g t c =
+pub try_choices-returns-then-try_choices : goal.try_choices-returns-then-try_choices
+try_choices-returns-then-try_choices g t c =
     let K = g.P.Price.ops in
     let m = g.B.Book.meaning c.args.book.now in
     let pick = answers_of (g.K.Picker.answer c.args.picker.now) in
     let a = c.args.self.now in
-    let e = c.if-try-choices.ensures in
+    let e = c.if-try_choices.ensures in
     let cells = c.args.scratch.now in
     let S = setup_of K a.choices pick a.k a.limit in
     let ts = terms_from K m a.choices a.lines cells c.args.force.now 0 in
@@ -333,16 +333,16 @@ try-choices-returns-then-try-choices g t c =
           is ∙ sym (each_more c.args.n f (sofar a false) (omega arith) ∙ visit_idle S (each (c.args.n - 1) f (sofar a false)) ts unused (put c.args.bay (c.args.n - 1) σ) folds k (bays_from c.args.rest 0) (sym (ap (λ (x : Sofar _). x.stopped) is)));
       framed = e.framed;
       newest = e.newest;
-      newest_bay = e.newest-bay;
+      newest_bay = e.newest_bay;
       sound = e.sound;
       cells = e.cells;
     }
 
-pub try-choices-visit-requires : goal.try-choices-visit-requires
-try-choices-visit-requires g t c κs within =
+pub try_choices-visit-requires : goal.try_choices-visit-requires
+try_choices-visit-requires g t c κs within =
     let m = g.B.Book.meaning c.args.book.now in
     let a = c.args.self.now in
-    let e = c.if-try-choices.ensures in (
+    let e = c.if-try_choices.ensures in (
       search rules,
       (
         within.0,
@@ -352,24 +352,24 @@ try-choices-visit-requires g t c κs within =
             within.1.1.0,
             (
               within.1.1.1,
-              try_state g.P.Price.ops m a c.try-choices.new.self c.advance.new.self c.args.rest c.args.force.now c.args.used (length c.args.scratch.now) (length c.try-choices.new.scratch) c.args.bay (c.args.n - 1)
-                  c.requires.ok c.requires.opens e.framed e.newest e.newest-bay e.sound c.advance.ensures.depth c.advance.ensures.lines c.advance.ensures.same c.requires.inside (omega (arith, c.requires.tries)) (omega arith),
+              try_state g.P.Price.ops m a c.try_choices.new.self c.advance.new.self c.args.rest c.args.force.now c.args.used (length c.args.scratch.now) (length c.try_choices.new.scratch) c.args.bay (c.args.n - 1)
+                  c.requires.ok c.requires.opens e.framed e.newest e.newest_bay e.sound c.advance.ensures.depth c.advance.ensures.lines c.advance.ensures.same c.requires.inside (omega (arith, c.requires.tries)) (omega arith),
             ),
           ),
         ),
       ),
     )
 
-pub try-choices-returns : goal.try-choices-returns
-try-choices-returns g t c =
+pub try_choices-returns : goal.try_choices-returns
+try_choices-returns g t c =
     let K = g.P.Price.ops in
     let m = g.B.Book.meaning c.args.book.now in
     let pick = answers_of (g.K.Picker.answer c.args.picker.now) in
     let a = c.args.self.now in
-    let u = c.try-choices.new.self in
+    let u = c.try_choices.new.self in
     let v = c.advance.new.self in
     let w = c.visit.new.self in
-    let e = c.if-try-choices.ensures in
+    let e = c.if-try_choices.ensures in
     let x = c.visit.ensures in
     let f = e.framed in
     let h = x.framed in
@@ -380,17 +380,17 @@ try-choices-returns g t c =
     let ts = terms_from K m a.choices a.lines cells c.args.force.now 0 in
     let folds = folds_of K m a.choices a.lines cells d in
     let unused = length cells - c.args.used in
-    let newer = try_newest K m a u v c.args.rest c.args.force.now c.args.used (length cells) (length c.try-choices.new.scratch) c.args.bay (c.args.n - 1) c.requires.ok c.requires.opens f e.newest e.newest-bay e.sound ae.depth ae.lines ae.same in
-    let newer_bay = try_bay K m a u v c.args.rest c.args.force.now c.args.used (length cells) (length c.try-choices.new.scratch) c.args.bay (c.args.n - 1) c.requires.ok c.requires.opens f e.newest e.newest-bay e.sound ae.depth ae.lines ae.same in
-    let keeps = try_kept K m a u v c.args.rest c.args.force.now c.args.used (length cells) (length c.try-choices.new.scratch) c.args.bay (c.args.n - 1) c.requires.ok c.requires.opens f e.newest e.newest-bay e.sound ae.depth ae.lines ae.same in
+    let newer = try_newest K m a u v c.args.rest c.args.force.now c.args.used (length cells) (length c.try_choices.new.scratch) c.args.bay (c.args.n - 1) c.requires.ok c.requires.opens f e.newest e.newest_bay e.sound ae.depth ae.lines ae.same in
+    let newer_bay = try_bay K m a u v c.args.rest c.args.force.now c.args.used (length cells) (length c.try_choices.new.scratch) c.args.bay (c.args.n - 1) c.requires.ok c.requires.opens f e.newest e.newest_bay e.sound ae.depth ae.lines ae.same in
+    let keeps = try_kept K m a u v c.args.rest c.args.force.now c.args.used (length cells) (length c.try_choices.new.scratch) c.args.bay (c.args.n - 1) c.requires.ok c.requires.opens f e.newest e.newest_bay e.sound ae.depth ae.lines ae.same in
     let low : d < v.depth = omega (arith, ae.depth, f.depth, c.requires.opens) in
     let w_depth : w.depth - 1 ≡ d = omega (arith, h.depth, ae.depth, f.depth) in
     record {
       state = λ k l.
           let f' = λ (y : ℕ). visit S k (bays_from c.args.rest 0) ts unused (put c.args.bay y (set_in a.lines d)) folds in
           x.state k l
-          ∙ try_visited K m a u v c.args.rest c.args.force.now c.args.used (length cells) (length c.try-choices.new.scratch) c.args.bay (c.args.n - 1) c.requires.ok c.requires.opens f e.newest e.newest-bay e.sound ae.depth ae.lines ae.same
-          pick cells c.try-choices.new.scratch k (each (c.args.n - 1) f' (sofar a false)) e.cells (omega arith) (e.state k l)
+          ∙ try_visited K m a u v c.args.rest c.args.force.now c.args.used (length cells) (length c.try_choices.new.scratch) c.args.bay (c.args.n - 1) c.requires.ok c.requires.opens f e.newest e.newest_bay e.sound ae.depth ae.lines ae.same
+          pick cells c.try_choices.new.scratch k (each (c.args.n - 1) f' (sofar a false)) e.cells (omega arith) (e.state k l)
           ∙ sym (each_more c.args.n f' (sofar a false) (omega arith));
       framed = record {
         choices = h.choices ∙ ae.same.choices ∙ f.choices;
@@ -419,23 +419,23 @@ visit-returns-then-self g t c =
       cells = refl;
     }
 
-pub visit-floor-of-floor-requires : goal.visit-floor-of-floor-requires
-visit-floor-of-floor-requires g t c =
+pub visit-floor_of-floor-requires : goal.visit-floor_of-floor-requires
+visit-floor_of-floor-requires g t c =
     let a = c.args.self.now in
     let st = c.requires.ok in
-    record { upto = omega arith; ready = record { fits = st.ready.fits; sound = st.ready.sound }; legal = set_ok_in a.choices a.lines a.depth c.choices-set-set.result st.legal c.choices-set-set.ensures; opened = st.opened }
+    record { upto = omega arith; ready = record { fits = st.ready.fits; sound = st.ready.sound }; legal = set_ok_in a.choices a.lines a.depth c.choices_set-set.result st.legal c.choices_set-set.ensures; opened = st.opened }
 
-pub visit-returns-then-at-most : goal.visit-returns-then-at-most
-visit-returns-then-at-most g t c =
+pub visit-returns-then-at_most : goal.visit-returns-then-at_most
+visit-returns-then-at_most g t c =
     let K = g.P.Price.ops in
     let m = g.B.Book.meaning c.args.book.now in
     let pick = answers_of (g.K.Picker.answer c.args.picker.now) in
     let a = c.args.self.now in
     let cells = c.args.scratch.now in
-    let low = c.floor-of-floor.ensures ∙ ap (λ (π : Plan). floor K (byte_of a.choices) (terms_from K m a.choices a.lines cells c.args.force.now 0) (bays_from c.args.remaining 0) π) c.choices-set-set.ensures in
+    let low = c.floor_of-floor.ensures ∙ ap (λ (π : Plan). floor K (byte_of a.choices) (terms_from K m a.choices a.lines cells c.args.force.now 0) (bays_from c.args.remaining 0) π) c.choices_set-set.ensures in
     record {
       state = λ n h. sym (visit_cut (setup_of K a.choices pick a.k a.limit) (sofar a false) (terms_from K m a.choices a.lines cells c.args.force.now 0) (length cells - c.args.used) (set_in a.lines a.depth) (folds_of K m a.choices a.lines cells a.depth) n (bays_from c.args.remaining 0) refl c.if-self.false
-          (ap (λ p. K.at_most a.best p) (sym low) ∙ sym c.if-at-most.ensures));
+          (ap (λ p. K.at_most a.best p) (sym low) ∙ sym c.if-at_most.ensures));
       framed = record { choices = refl; depth = refl; limit = refl; k = refl; kept = λ e l. refl };
       sound = c.requires.ok.ready.sound;
       cells = refl;
@@ -468,11 +468,11 @@ visit-returns-then-remaining-eq0 g t c =
     let cells = c.args.scratch.now in
     let folds = folds_of K m a.choices a.lines cells a.depth in
     let f = c.arrive.ensures.framed in
-    let low = c.floor-of-floor.ensures ∙ ap (λ (π : Plan). floor K (byte_of a.choices) (terms_from K m a.choices a.lines cells c.args.force.now 0) (bays_from c.args.remaining 0) π) c.choices-set-set.ensures in
+    let low = c.floor_of-floor.ensures ∙ ap (λ (π : Plan). floor K (byte_of a.choices) (terms_from K m a.choices a.lines cells c.args.force.now 0) (bays_from c.args.remaining 0) π) c.choices_set-set.ensures in
     record {
       state = λ n h. c.arrive.ensures.state ∙ ap (λ p. arrived p (read K (byte_of a.choices) folds (set_in a.lines a.depth)) (counted (sofar a false))) low
           ∙ sym (visit_leaf (setup_of K a.choices pick a.k a.limit) (sofar a false) (terms_from K m a.choices a.lines cells c.args.force.now 0) (length cells - c.args.used) (set_in a.lines a.depth) folds n (bays_from c.args.remaining 0) (ap length (ap (λ (x : ℕ). bays_from x 0) c.if-remaining-eq0.true ∙ no_bays)) refl c.if-self.false
-          (ap (λ p. K.at_most a.best p) (sym low) ∙ sym c.if-at-most.ensures));
+          (ap (λ p. K.at_most a.best p) (sym low) ∙ sym c.if-at_most.ensures));
       framed = record { choices = f.choices; depth = f.depth; limit = f.limit; k = f.k; kept = f.kept };
       sound = sound_moved a.choices c.arrive.new.self.choices a.lines c.arrive.new.self.lines f.choices c.arrive.ensures.lines c.requires.ok.ready.sound;
       cells = refl;
@@ -487,11 +487,11 @@ visit-returns g t c =
     let cells = c.args.scratch.now in
     let f = c.pass.ensures.framed in
     let some : 0 < length (bays_from c.args.remaining 0) = some_bays c.args.remaining (omega (arith, c.if-remaining-eq0.false)) c.requires.ok.small in
-    let low = c.floor-of-floor.ensures ∙ ap (λ (π : Plan). floor K (byte_of a.choices) (terms_from K m a.choices a.lines cells c.args.force.now 0) (bays_from c.args.remaining 0) π) c.choices-set-set.ensures in
+    let low = c.floor_of-floor.ensures ∙ ap (λ (π : Plan). floor K (byte_of a.choices) (terms_from K m a.choices a.lines cells c.args.force.now 0) (bays_from c.args.remaining 0) π) c.choices_set-set.ensures in
     record {
       state = λ n h. c.pass.ensures.state (n - 1) (omega arith)
           ∙ sym (visit_on (setup_of K a.choices pick a.k a.limit) (sofar a false) (terms_from K m a.choices a.lines cells c.args.force.now 0) (length cells - c.args.used) (set_in a.lines a.depth) (folds_of K m a.choices a.lines cells a.depth) n (bays_from c.args.remaining 0) some h refl c.if-self.false
-          (ap (λ p. K.at_most a.best p) (sym low) ∙ sym c.if-at-most.ensures));
+          (ap (λ p. K.at_most a.best p) (sym low) ∙ sym c.if-at_most.ensures));
       framed = record { choices = f.choices; depth = f.depth; limit = f.limit; k = f.k; kept = f.kept };
       sound = c.pass.ensures.sound;
       cells = c.pass.ensures.cells;

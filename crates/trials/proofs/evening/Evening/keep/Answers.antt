@@ -9,7 +9,7 @@ pub returns : goal.returns
 returns t c =
     let e = c.args.self.now in
     let k = c.args.ticket in
-    let new = sym c.if-not-is-newest.ensures in
+    let new = sym c.if-not-is_newest.ensures in
     let some : 0 < e.depth = search rules in
     let closed = subst (λ (m : Marks). Closed e m c.close.new.self) c.marks-marks.ensures c.close.ensures in
     record {
