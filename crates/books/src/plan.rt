@@ -15,7 +15,7 @@ fn is_choice(choice: u8, choices: u8) -> bool
 
 // Whether the bytes begin with a plan of the book, one byte a bay.
 pub fn is_plan<B: Book>(book: &B, plan: &[u8]) -> bool
-    ensures { result ≡ planned (meaning book.now) plan.now }
+    ensures { result ≡ planned (B.meaning book.now) plan.now }
 {
     let bays = book.bays();
     if plan.len() < bays {
@@ -31,21 +31,21 @@ pub fn is_plan<B: Book>(book: &B, plan: &[u8]) -> bool
 
 // A sum with the own price of a bay's choice.
 fn with_own<B: Book>(book: &B, sum: B::Cost, bay: usize, choice: u8) -> B::Cost
-    ensures { result ≡ B.Cost.Price.ops.combine sum ((meaning book.now).own bay choice) }
+    ensures { result ≡ B.Cost.ops.combine sum ((B.meaning book.now).own bay choice) }
 {
     sum.combine(book.own(bay, choice))
 }
 
 // A sum with the price of a rule under a plan.
 fn with_rule<B: Book>(book: &B, sum: B::Cost, rule: usize, plan: &[u8]) -> B::Cost
-    ensures { result ≡ B.Cost.Price.ops.combine sum ((meaning book.now).price rule plan.now) }
+    ensures { result ≡ B.Cost.ops.combine sum ((B.meaning book.now).price rule plan.now) }
 {
     sum.combine(book.price(rule, plan))
 }
 
 // All own prices and all rules' prices combined; forbidden where the bytes begin with no plan.
 pub fn price_of_plan<B: Book>(book: &B, plan: &[u8]) -> B::Cost
-    ensures { result ≡ plan_price B.Cost.Price.ops (meaning book.now) plan.now }
+    ensures { result ≡ plan_price B.Cost.ops (B.meaning book.now) plan.now }
 {
     if !is_plan(book, plan) {
         return B::Cost::forbidden();

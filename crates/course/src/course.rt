@@ -32,9 +32,9 @@ fn write_lines<B: Book, K: Picker>(
     bays: usize,
     lines: &mut [Line],
 )
-    requires all { bays ≡ (meaning book.now).bays }
-    requires room { (meaning book.now).bays ≤ length lines.old }
-    ensures { lines.new ≡ map written (lines_of (meaning book.now) (answer picker.now) k cells) ++ drop (meaning book.now).bays lines.old }
+    requires all { bays ≡ (B.meaning book.now).bays }
+    requires room { (B.meaning book.now).bays ≤ length lines.old }
+    ensures { lines.new ≡ map written (lines_of (B.meaning book.now) (K.answer picker.now) k cells) ++ drop (B.meaning book.now).bays lines.old }
 {
     let choices = tries(book);
     fill(
@@ -59,9 +59,9 @@ pub fn course<B: Book, K: Picker>(
     cells: usize,
     lines: &mut [Line],
 ) -> Result<u64, Refusal>
-    ensures answers { result ≡ reply (meaning book.now) (answer picker.now) k cells (length lines.old) }
-    ensures writes { lines.new ≡ after (meaning book.now) (answer picker.now) k cells lines.old }
-    ensures tells { MatchResult result (λ n. Tells (meaning book.now) lines.new n) (λ e. (number_of e ≡ 10) × (lines.new ≡ lines.old)) }
+    ensures answers { result ≡ reply (B.meaning book.now) (K.answer picker.now) k cells (length lines.old) }
+    ensures writes { lines.new ≡ after (B.meaning book.now) (K.answer picker.now) k cells lines.old }
+    ensures tells { MatchResult result (λ n. Tells (B.meaning book.now) lines.new n) (λ e. (number_of e ≡ 10) × (lines.new ≡ lines.old)) }
 {
     let Some(k) = small_k(k) else {
         return Err(Refusal::BadSetting);

@@ -34,7 +34,7 @@ pub(crate) fn fill<K: Picker>(
     requires room { at + left ≤ length lines.old }
     requires few { remaining < 2 ^ 24 }
     requires count { count_ones remaining ≡ left }
-    ensures { lines.new ≡ put lines.old at (course_of (answer picker.now) choices.now k left masks remaining unused) }
+    ensures { lines.new ≡ put lines.old at (course_of (K.answer picker.now) choices.now k left masks remaining unused) }
 {
     if left == 0 {
         return;

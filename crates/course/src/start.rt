@@ -13,7 +13,7 @@ fn joined(near: u32, scope: u32, bay: u8) -> u32
 
 // The bays of all rules over a bay.
 fn touching<B: Book>(book: &B, bay: u8) -> u32
-    ensures { result ≡ touched (meaning book.now).scope bay (meaning book.now).rules }
+    ensures { result ≡ touched (B.meaning book.now).scope bay (B.meaning book.now).rules }
 {
     let mut near = 0;
     for rule in 0..book.rules() {
@@ -24,7 +24,7 @@ fn touching<B: Book>(book: &B, bay: u8) -> u32
 
 // The neighbour sets of a book's bays before any is passed.
 pub(crate) fn start<B: Book>(book: &B) -> [u32; 24]
-    ensures { result ≡ sets_of (meaning book.now).scope (meaning book.now).rules }
+    ensures { result ≡ sets_of (B.meaning book.now).scope (B.meaning book.now).rules }
 {
     let mut sets = [0; 24];
     for bay in 0..24 {
@@ -35,7 +35,7 @@ pub(crate) fn start<B: Book>(book: &B) -> [u32; 24]
 
 // The choices of each bay.
 pub(crate) fn tries<B: Book>(book: &B) -> [u8; 24]
-    ensures { result ≡ tries_of (meaning book.now).choices }
+    ensures { result ≡ tries_of (B.meaning book.now).choices }
 {
     let mut counts = [0; 24];
     for bay in 0..24 {

@@ -47,7 +47,7 @@ pub fn step<K: Picker>(
     remaining: u32,
     unused: usize,
 ) -> Step
-    ensures is { result ≡ decided (answer picker.now) choices.now k masks remaining unused }
+    ensures is { result ≡ decided (K.answer picker.now) choices.now k masks remaining unused }
     ensures remains { 0 < remaining → remaining < 2 ^ 24 → has_of remaining result.bay ≡ true }
     ensures fits { result.used ≤ unused }
 {

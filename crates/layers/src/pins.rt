@@ -46,7 +46,7 @@ impl<B> Pins<B> {
 impl<B: Book> Book for Pins<B> {
     type Cost = B::Cost;
 
-    ghost meaning = { λ p. pinned B.Cost.Price.ops p.pins (B.Book.meaning p.below) };
+    ghost meaning = { λ p. pinned B.Cost.ops p.pins (B.meaning p.below) };
 
     ghost lawful = { Prim.search rules };
 

@@ -15,7 +15,7 @@ pub struct QuietHours<B> {
 impl<B: Book> Book for QuietHours<B> {
     type Cost = B::Cost;
 
-    ghost meaning = { λ q. quiet B.Cost.Price.ops q.last (B.Book.meaning q.below) };
+    ghost meaning = { λ q. quiet B.Cost.ops q.last (B.meaning q.below) };
 
     ghost lawful = { Prim.search rules };
 

@@ -54,7 +54,7 @@ fn scope_unless(off: bool, scope: u32) -> u32
 impl<B: Book> Suspensions<B> {
     // Whether a rule of the book below is suspended.
     fn is_off(&self, rule: usize) -> bool
-        ensures { result ≡ is_off self.now.off (B.Book.meaning self.now.below) rule }
+        ensures { result ≡ is_off self.now.off (B.meaning self.now.below) rule }
     {
         rule < self.below.rules() && self.is_suspended(rule)
     }
@@ -63,7 +63,7 @@ impl<B: Book> Suspensions<B> {
 impl<B: Book> Book for Suspensions<B> {
     type Cost = B::Cost;
 
-    ghost meaning = { λ s. suspended B.Cost.Price.ops s.off (B.Book.meaning s.below) };
+    ghost meaning = { λ s. suspended B.Cost.ops s.off (B.meaning s.below) };
 
     ghost lawful = { Prim.search rules };
 

@@ -37,9 +37,9 @@ fn kept(body: &[u8], index: Index) -> Kept
 
 // The book that the bytes are, or the first fault from the start.
 pub fn read<P: Stored>(bytes: &[u8]) -> Result<HouseBook<P>, Refusal>
-    ensures accepted { IfOk result (λ b. FitsBook P.Stored.letters P.Stored.top (layout_of b) × (bytes.now ≡ book_bytes P.Stored.letters (layout_of b))) }
-    ensures refused { IfErr result (λ e. Refused P.Stored.letters P.Stored.top bytes.now e) }
-    ensures reads { MatchResult result (λ b. book_in P.Stored.letters P.Stored.top bytes.now ≡ got (layout_of b) []) (λ e. book_in P.Stored.letters P.Stored.top bytes.now ≡ bad e) }
+    ensures accepted { IfOk result (λ b. FitsBook P.letters P.top (layout_of b) × (bytes.now ≡ book_bytes P.letters (layout_of b))) }
+    ensures refused { IfErr result (λ e. Refused P.letters P.top bytes.now e) }
+    ensures reads { MatchResult result (λ b. book_in P.letters P.top bytes.now ≡ got (layout_of b) []) (λ e. book_in P.letters P.top bytes.now ≡ bad e) }
 {
     let index = reader::index::<P>(bytes)?;
     Ok(HouseBook {

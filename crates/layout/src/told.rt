@@ -26,7 +26,7 @@ impl Kept {
 
 // The price of a cell; forbidden where there is none.
 fn priced_at<P: Stored>(cell: Option<u32>) -> P
-    ensures { result ≡ priced P.Price.ops P.Stored.cell cell }
+    ensures { result ≡ priced P.ops P.cell cell }
 {
     match cell {
         Some(n) => P::from_cell(n),
@@ -37,9 +37,9 @@ fn priced_at<P: Stored>(cell: Option<u32>) -> P
 impl<P: Stored> Book for HouseBook<P> {
     type Cost = P;
 
-    ghost meaning = { λ b. meaning_of P.Price.ops P.Stored.cell (layout_of b) };
+    ghost meaning = { λ b. meaning_of P.ops P.cell (layout_of b) };
 
-    ghost lawful = { λ b. meant_lawful P.Price.ops P.Stored.cell (layout_of b) 4294967295 (∥∥₁_map b.kept.found (λ f. f.fits)) };
+    ghost lawful = { λ b. meant_lawful P.ops P.cell (layout_of b) 4294967295 (∥∥₁_map b.kept.found (λ f. f.fits)) };
 
     fn bays(&self) -> usize {
         self.kept.view().bays()

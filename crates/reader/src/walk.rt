@@ -32,7 +32,7 @@ fn walk(body: &[u8], top: u32) -> Result<Index, Refusal>
 
 // An index of the bytes, where the layout's reading accepts them.
 fn found<P: Stored>(bytes: &[u8]) -> Result<Index, Refusal>
-    ensures { MatchResult result (λ i. Indexes P.Stored.letters P.Stored.top bytes.now i) (λ e. book_in P.Stored.letters P.Stored.top bytes.now ≡ bad e) }
+    ensures { MatchResult result (λ i. Indexes P.letters P.top bytes.now i) (λ e. book_in P.letters P.top bytes.now ≡ bad e) }
 {
     short_enough(bytes)?;
     let body = header(bytes, P::mark())?;
@@ -41,8 +41,8 @@ fn found<P: Stored>(bytes: &[u8]) -> Result<Index, Refusal>
 
 // An index of the book that the bytes are, or the first fault from the start.
 pub fn index<P: Stored>(bytes: &[u8]) -> Result<Index, Refusal>
-    ensures finds { MatchResult result (λ i. Indexes P.Stored.letters P.Stored.top bytes.now i) (λ e. book_in P.Stored.letters P.Stored.top bytes.now ≡ bad e) }
-    ensures means { MatchResult result (λ i. FitsBook P.Stored.letters P.Stored.top (layout_by (drop 5 bytes.now) i) × (bytes.now ≡ book_bytes P.Stored.letters (layout_by (drop 5 bytes.now) i))) (λ e. Refused P.Stored.letters P.Stored.top bytes.now e) }
+    ensures finds { MatchResult result (λ i. Indexes P.letters P.top bytes.now i) (λ e. book_in P.letters P.top bytes.now ≡ bad e) }
+    ensures means { MatchResult result (λ i. FitsBook P.letters P.top (layout_by (drop 5 bytes.now) i) × (bytes.now ≡ book_bytes P.letters (layout_by (drop 5 bytes.now) i))) (λ e. Refused P.letters P.top bytes.now e) }
 {
     found::<P>(bytes)
 }

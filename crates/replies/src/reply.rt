@@ -27,7 +27,7 @@ fn blank_lines() -> [Line; 24]
 
 // The course of the book by the order from 0 to 23.
 fn course_reply<B: Book>(heap: Global, book: &B, k: i64, cells: u32) -> Result<String, AllocError>
-    ensures { IfOk result (λ s. string_bytes s ≡ course_answer (meaning book.now) k cells) }
+    ensures { IfOk result (λ s. string_bytes s ≡ course_answer (B.meaning book.now) k cells) }
 {
     let mut lines = blank_lines();
     match course(book, &Order::rising(), k, cells as usize, &mut lines) {
@@ -52,7 +52,7 @@ pub fn plan_reply<B: Book<Cost = Cents>>(
     limit: u32,
     ceiling: u32,
 ) -> Result<String, AllocError>
-    ensures { IfOk result (λ s. string_bytes s ≡ plan_answer (meaning book.now) k cells limit ceiling) }
+    ensures { IfOk result (λ s. string_bytes s ≡ plan_answer (B.meaning book.now) k cells limit ceiling) }
 {
     let mut scratch = scratch_of(heap, cells)?;
     let mut bytes = [0u8; 24];
@@ -70,7 +70,7 @@ pub fn plan_reply<B: Book<Cost = Cents>>(
 
 // A course is answered in full; the other commands are refused as unread until their calls are there.
 fn answer<B: Book>(heap: Global, book: &B, command: Command) -> Result<String, AllocError>
-    ensures { IfOk result (λ s. string_bytes s ≡ answer_text (meaning book.now) command) }
+    ensures { IfOk result (λ s. string_bytes s ≡ answer_text (B.meaning book.now) command) }
 {
     match command {
         Command::Course { k, cells } => course_reply(heap, book, k, cells),
@@ -80,7 +80,7 @@ fn answer<B: Book>(heap: Global, book: &B, command: Command) -> Result<String, A
 
 // The text that answers a line; neither has its line feed.
 pub fn reply<B: Book>(heap: Global, book: &B, line: &[u8]) -> Result<String, AllocError>
-    ensures { IfOk result (λ s. Answered (meaning book.now) line.now (string_bytes s)) }
+    ensures { IfOk result (λ s. Answered (B.meaning book.now) line.now (string_bytes s)) }
 {
     match commands::parse(line) {
         Ok(command) => answer(heap, book, command),

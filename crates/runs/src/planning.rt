@@ -22,8 +22,8 @@ pub fn course<P: Price, B: Book<Cost = P>, K: Picker>(
     cells: usize,
     lines: &mut [Line],
 ) -> Result<u64, Refusal>
-    ensures pile { Coursed (pile_book P.Price.ops B.Book.meaning evening.now.book) (K.Picker.answer picker.now) k cells lines.old lines.new result }
-    ensures sheet { (g : Ground P) (s : Sheet) → Follows B.Book.meaning g evening.now s → Coursed (sheet_book P.Price.ops g s) (K.Picker.answer picker.now) k cells lines.old lines.new result }
+    ensures pile { Coursed (pile_book P.ops B.meaning evening.now.book) (K.answer picker.now) k cells lines.old lines.new result }
+    ensures sheet { (g : Ground P) (s : Sheet) → Follows B.meaning g evening.now s → Coursed (sheet_book P.ops g s) (K.answer picker.now) k cells lines.old lines.new result }
 {
     course::course::course(evening.pile(), picker, k, cells, lines)
 }
@@ -38,8 +38,8 @@ pub fn plan<P: Price, B: Book<Cost = P>, K: Picker>(
     scratch: &mut [P],
     bytes: &mut [u8],
 ) -> Planned<P>
-    ensures pile { Sought P.Price.ops (pile_book P.Price.ops B.Book.meaning evening.now.book) (K.Picker.answer picker.now) k limit (length scratch.old) (P.Price.pre ceiling) bytes.old bytes.new result }
-    ensures sheet { (g : Ground P) (s : Sheet) → Follows B.Book.meaning g evening.now s → Sought P.Price.ops (sheet_book P.Price.ops g s) (K.Picker.answer picker.now) k limit (length scratch.old) (P.Price.pre ceiling) bytes.old bytes.new result }
+    ensures pile { Sought P.ops (pile_book P.ops B.meaning evening.now.book) (K.answer picker.now) k limit (length scratch.old) (P.accepts ceiling) bytes.old bytes.new result }
+    ensures sheet { (g : Ground P) (s : Sheet) → Follows B.meaning g evening.now s → Sought P.ops (sheet_book P.ops g s) (K.answer picker.now) k limit (length scratch.old) (P.accepts ceiling) bytes.old bytes.new result }
 {
     search::plan::plan(evening.pile(), picker, k, limit, ceiling, scratch, bytes)
 }

@@ -21,10 +21,10 @@ pub(crate) fn read_back<B: Book>(
     plan: [u8; 24],
 ) -> [u8; 24]
     requires deep { depth ≤ 24 }
-    requires ready { Ready (meaning book.now) choices.now lines.now }
+    requires ready { Ready (B.meaning book.now) choices.now lines.now }
     requires bays { BaysOk choices.now lines.now depth }
     requires legal { PlanOk choices.now plan }
-    ensures { byte_of result ≡ read B.Cost.Price.ops (byte_of choices.now) (folds_of B.Cost.Price.ops (meaning book.now) choices.now lines.now scratch.now depth) (byte_of plan) }
+    ensures { byte_of result ≡ read B.Cost.ops (byte_of choices.now) (folds_of B.Cost.ops (B.meaning book.now) choices.now lines.now scratch.now depth) (byte_of plan) }
 {
     if depth == 0 {
         return plan;

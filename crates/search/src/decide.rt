@@ -33,7 +33,7 @@ pub(crate) fn decide_step<P: Price, B: Book<Cost = P>, K: Picker>(
     requires small { remaining < 2 ^ 24 }
     requires short { int_le search.now.k (pos 4) ≡ true }
     requires room { used ≤ length scratch.now }
-    ensures { Decided P.Price.ops (B.Book.meaning book.now) (answers_of (K.Picker.answer picker.now)) search.now remaining force.now used scratch.now result.bay result.fold result.near result.size }
+    ensures { Decided P.ops (B.meaning book.now) (answers_of (K.answer picker.now)) search.now remaining force.now used scratch.now result.bay result.fold result.near result.size }
 {
     let near = nears(book, &search.lines, force, remaining);
     let next = step(

@@ -23,10 +23,10 @@ fn lowest<B: Book>(
 ) -> B::Cost
     requires inside { number < 112 }
     requires upto { bay ≤ 24 }
-    requires ready { Ready (meaning book.now) choices.now lines.now }
+    requires ready { Ready (B.meaning book.now) choices.now lines.now }
     requires legal { PlanOk choices.now plan.now }
     requires opened { Open choices.now left }
-    ensures { result ≡ lowest_from B.Cost.Price.ops (meaning book.now) choices.now lines.now scratch.now number left bay (byte_of plan.now) }
+    ensures { result ≡ lowest_from B.Cost.ops (B.meaning book.now) choices.now lines.now scratch.now number left bay (byte_of plan.now) }
 {
     if bay >= 24 {
         return value_of(book, choices, lines, scratch, number, plan);
@@ -67,10 +67,10 @@ fn lowest_over<B: Book>(
     requires upto { bay < 24 }
     requires some { 0 < n }
     requires all { n ≤ slice_index choices.now bay }
-    requires ready { Ready (meaning book.now) choices.now lines.now }
+    requires ready { Ready (B.meaning book.now) choices.now lines.now }
     requires legal { PlanOk choices.now plan.now }
     requires opened { Open choices.now left }
-    ensures { result ≡ lowest_over_from B.Cost.Price.ops (meaning book.now) choices.now lines.now scratch.now number left bay n (byte_of plan.now) }
+    ensures { result ≡ lowest_over_from B.Cost.ops (B.meaning book.now) choices.now lines.now scratch.now number left bay n (byte_of plan.now) }
 {
     let mut next = *plan;
     next[bay] = n - 1;
@@ -104,10 +104,10 @@ pub(crate) fn floor_of<B: Book>(
     number: usize,
 ) -> B::Cost
     requires upto { number ≤ 112 }
-    requires ready { Ready (meaning book.now) choices.now lines.now }
+    requires ready { Ready (B.meaning book.now) choices.now lines.now }
     requires legal { PlanOk choices.now plan.now }
     requires opened { Open choices.now left }
-    ensures { result ≡ floor_from B.Cost.Price.ops (meaning book.now) choices.now lines.now scratch.now force.now left (byte_of plan.now) number }
+    ensures { result ≡ floor_from B.Cost.ops (B.meaning book.now) choices.now lines.now scratch.now force.now left (byte_of plan.now) number }
 {
     if number >= 112 {
         return B::Cost::free();

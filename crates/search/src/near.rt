@@ -20,7 +20,7 @@ fn touched<B: Book>(
 ) -> u32
     requires upto { number ≤ 112 }
     requires bay { bay < 24 }
-    ensures { (i : ℕ) → has result i ≡ shares (meaning book.now) lines.now force.now bay number i }
+    ensures { (i : ℕ) → has result i ≡ shares (B.meaning book.now) lines.now force.now bay number i }
 {
     if number >= 112 {
         return 0;
@@ -45,7 +45,7 @@ fn near_of<B: Book>(
     bay: usize,
 ) -> u32
     requires { bay < 24 }
-    ensures { (i : ℕ) → has result i ≡ is_near (meaning book.now) lines.now force.now remaining bay i }
+    ensures { (i : ℕ) → has result i ≡ is_near (B.meaning book.now) lines.now force.now remaining bay i }
 {
     let all = touched(book, lines, force, bay, 0) & remaining;
     without(all, bay as u8)
@@ -58,7 +58,7 @@ pub(crate) fn nears<B: Book>(
     force: &[bool; 112],
     remaining: u32,
 ) -> [u32; 24]
-    ensures { (bay i : ℕ) → bay < 24 → has (slice_index result bay) i ≡ is_near (meaning book.now) lines.now force.now remaining bay i }
+    ensures { (bay i : ℕ) → bay < 24 → has (slice_index result bay) i ≡ is_near (B.meaning book.now) lines.now force.now remaining bay i }
 {
     let mut out = [0u32; 24];
     for n in 0..24 {
@@ -77,7 +77,7 @@ pub(crate) fn folded_force<B: Book>(
 ) -> [bool; 112]
     requires bay { bay < 24 }
     requires deep { depth < 24 }
-    ensures { (j : ℕ) → flag result j ≡ after (meaning book.now) lines.now force.now bay depth j }
+    ensures { (j : ℕ) → flag result j ≡ after (B.meaning book.now) lines.now force.now bay depth j }
 {
     let mut out = *force;
     for j in 0..112 {

@@ -23,7 +23,7 @@ fn run<P: Price, B: Book<Cost = P>, K: Picker>(
     scratch: &mut [P],
 ) -> Ended<P>
     requires { int_le k (pos 4) ≡ true }
-    ensures { ended_of result ≡ search_in P.Price.ops (B.Book.meaning book.now) (answers_of (K.Picker.answer picker.now)) k limit (length scratch.old) ceiling }
+    ensures { ended_of result ≡ search_in P.ops (B.meaning book.now) (answers_of (K.answer picker.now)) k limit (length scratch.old) ceiling }
 {
     let bays = book.bays();
     let force = start_force(bays, book.rules());
@@ -93,9 +93,9 @@ pub fn plan<P: Price, B: Book<Cost = P>, K: Picker>(
     scratch: &mut [P],
     bytes: &mut [u8],
 ) -> Planned<P>
-    ensures answers { result ≡ reply P.Price.ops (B.Book.meaning book.now) (K.Picker.answer picker.now) k limit (length scratch.old) (length bytes.old) (P.Price.pre ceiling) }
-    ensures bytes { (i : ℕ) → slice_index bytes.new i ≡ bytes_after P.Price.ops (B.Book.meaning book.now) (K.Picker.answer picker.now) k limit (length scratch.old) (length bytes.old) (P.Price.pre ceiling) bytes.old i }
-    ensures promise { Promise P.Price.ops (B.Book.meaning book.now) (allowed (B.Book.meaning book.now) k limit (length bytes.old)) (P.Price.pre ceiling) (forecast (course_in (B.Book.meaning book.now) (answers_of (K.Picker.answer picker.now)) k (length scratch.old))) limit bytes.new result }
+    ensures answers { result ≡ reply P.ops (B.meaning book.now) (K.answer picker.now) k limit (length scratch.old) (length bytes.old) (P.accepts ceiling) }
+    ensures bytes { (i : ℕ) → slice_index bytes.new i ≡ bytes_after P.ops (B.meaning book.now) (K.answer picker.now) k limit (length scratch.old) (length bytes.old) (P.accepts ceiling) bytes.old i }
+    ensures promise { Promise P.ops (B.meaning book.now) (allowed (B.meaning book.now) k limit (length bytes.old)) (P.accepts ceiling) (forecast (course_in (B.meaning book.now) (answers_of (K.answer picker.now)) k (length scratch.old))) limit bytes.new result }
 {
     let bays = book.bays();
     let Some(k) = settings(k, limit, bays, bytes.len()) else {

@@ -23,9 +23,9 @@ fn charge<B: Book>(
 ) -> B::Cost
     requires upto { number ≤ 112 }
     requires bay { bay < 24 }
-    requires ready { Ready (meaning book.now) choices.now lines.now }
+    requires ready { Ready (B.meaning book.now) choices.now lines.now }
     requires legal { PlanOk choices.now plan.now }
-    ensures { result ≡ charge_from B.Cost.Price.ops (meaning book.now) choices.now lines.now scratch.now force.now bay (byte_of plan.now) number }
+    ensures { result ≡ charge_from B.Cost.ops (B.meaning book.now) choices.now lines.now scratch.now force.now bay (byte_of plan.now) number }
 {
     if number >= 112 {
         return B::Cost::free();
@@ -54,10 +54,10 @@ pub(crate) fn settle<B: Book>(
     requires bay { bay < 24 }
     requires some { 0 < n }
     requires all { n ≤ slice_index choices.now bay }
-    requires ready { Ready (meaning book.now) choices.now lines.now }
+    requires ready { Ready (B.meaning book.now) choices.now lines.now }
     requires legal { PlanOk choices.now plan.now }
-    ensures price { result.0 ≡ least B.Cost.Price.ops n (trial B.Cost.Price.ops (meaning book.now) choices.now lines.now scratch.now force.now bay (byte_of plan.now)) }
-    ensures choice { result.1 ≡ least_at B.Cost.Price.ops n (trial B.Cost.Price.ops (meaning book.now) choices.now lines.now scratch.now force.now bay (byte_of plan.now)) }
+    ensures price { result.0 ≡ least B.Cost.ops n (trial B.Cost.ops (B.meaning book.now) choices.now lines.now scratch.now force.now bay (byte_of plan.now)) }
+    ensures choice { result.1 ≡ least_at B.Cost.ops n (trial B.Cost.ops (B.meaning book.now) choices.now lines.now scratch.now force.now bay (byte_of plan.now)) }
 {
     let mut next = *plan;
     next[bay] = n - 1;

@@ -42,7 +42,7 @@ pub(crate) fn start_force(bays: usize, rules: usize) -> [bool; 112]
 
 // The choices of each bay.
 pub(crate) fn choices_of<B: Book>(book: &B) -> [u8; 24]
-    ensures { Fits (meaning book.now) result }
+    ensures { Fits (B.meaning book.now) result }
 {
     let mut out = [0u8; 24];
     for i in 0..24 {

@@ -45,7 +45,7 @@ pub(crate) fn fill<B: Book>(
     requires bay { bay < 24 }
     requires some { 0 < slice_index choices.now bay }
     requires few { Few choices.now }
-    requires ready { Ready (meaning book.now) choices.now lines.now }
+    requires ready { Ready (B.meaning book.now) choices.now lines.now }
     requires legal { PlanOk choices.now plan.now }
     requires opened { Open choices.now near }
     requires short { length (bays_from near 0) ≤ 4 }
@@ -53,7 +53,7 @@ pub(crate) fn fill<B: Book>(
     requires room { used + size ≤ length scratch.old }
     requires under { Under lines.now force.now used }
     ensures kept { take used scratch.new ≡ take used scratch.old }
-    ensures table { (k : ℕ) → k < size → slice_index_or scratch.new (used + k) B.Cost.Price.ops.forbidden ≡ least B.Cost.Price.ops (slice_index choices.now bay) (trial B.Cost.Price.ops (meaning book.now) choices.now lines.now scratch.old force.now bay (byte_of (decoded_of choices.now (has near) 0 24 k plan.now))) }
+    ensures table { (k : ℕ) → k < size → slice_index_or scratch.new (used + k) B.Cost.ops.forbidden ≡ least B.Cost.ops (slice_index choices.now bay) (trial B.Cost.ops (B.meaning book.now) choices.now lines.now scratch.old force.now bay (byte_of (decoded_of choices.now (has near) 0 24 k plan.now))) }
 {
     for place in 0..size {
         let spot = decoded(choices, near, 0, place, *plan);

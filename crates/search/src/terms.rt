@@ -10,7 +10,7 @@ use prices::price::Price;
 
 // The cell at a place of a table.
 fn cell_at<P: Price>(scratch: &[P], offset: usize, size: usize, at: usize) -> P
-    ensures { result ≡ slice_index_or (take size (drop offset scratch.now)) at P.Price.ops.forbidden }
+    ensures { result ≡ slice_index_or (take size (drop offset scratch.now)) at P.ops.forbidden }
 {
     if at >= size || offset >= scratch.len() {
         return P::forbidden();
@@ -24,7 +24,7 @@ fn cell_at<P: Price>(scratch: &[P], offset: usize, size: usize, at: usize) -> P
 // The bays of a term.
 pub(crate) fn scope_of<B: Book>(book: &B, lines: &[Line; 24], number: usize) -> u32
     requires { number < 112 }
-    ensures { result ≡ scope_mask (meaning book.now) lines.now number }
+    ensures { result ≡ scope_mask (B.meaning book.now) lines.now number }
 {
     if number < 24 {
         1 << number
@@ -45,10 +45,10 @@ pub(crate) fn value_of<B: Book>(
     plan: &[u8; 24],
 ) -> B::Cost
     requires inside { number < 112 }
-    requires fits { Fits (meaning book.now) choices.now }
+    requires fits { Fits (B.meaning book.now) choices.now }
     requires sound { Sound choices.now lines.now }
     requires legal { PlanOk choices.now plan.now }
-    ensures { result ≡ (term B.Cost.Price.ops (meaning book.now) choices.now lines.now scratch.now number).value (byte_of plan.now) }
+    ensures { result ≡ (term B.Cost.ops (B.meaning book.now) choices.now lines.now scratch.now number).value (byte_of plan.now) }
 {
     if number < 24 {
         book.own(number, plan[number])

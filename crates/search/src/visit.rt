@@ -32,8 +32,8 @@ impl<P: Price> Search<P> {
         floor: P,
         scratch: &[P],
     )
-        requires ok { State (B.Book.meaning book.now) self.old self.old.depth 0 force.now used (length scratch.now) }
-        ensures state { sofar self.new false ≡ arrived floor (read P.Price.ops (byte_of self.old.choices) (folds_of P.Price.ops (B.Book.meaning book.now) self.old.choices self.old.lines scratch.now self.old.depth) (set_in self.old.lines self.old.depth)) (sofar self.old false) }
+        requires ok { State (B.meaning book.now) self.old self.old.depth 0 force.now used (length scratch.now) }
+        ensures state { sofar self.new false ≡ arrived floor (read P.ops (byte_of self.old.choices) (folds_of P.ops (B.meaning book.now) self.old.choices self.old.lines scratch.now self.old.depth) (set_in self.old.lines self.old.depth)) (sofar self.old false) }
         ensures framed { Framed self.old.depth self.old self.new }
         ensures lines { self.new.lines ≡ self.old.lines }
     {
@@ -55,8 +55,8 @@ impl<P: Price> Search<P> {
         used: usize,
         scratch: &mut [P],
     ) -> bool
-        requires ok { State (B.Book.meaning book.now) self.old self.old.depth remaining force.now used (length scratch.old) }
-        ensures state { (n : ℕ) → length (bays_from remaining 0) ≤ n → sofar self.new result ≡ visited P.Price.ops (B.Book.meaning book.now) (answers_of (K.Picker.answer picker.now)) self.old remaining force.now used scratch.old n (sofar self.old false) }
+        requires ok { State (B.meaning book.now) self.old self.old.depth remaining force.now used (length scratch.old) }
+        ensures state { (n : ℕ) → length (bays_from remaining 0) ≤ n → sofar self.new result ≡ visited P.ops (B.meaning book.now) (answers_of (K.answer picker.now)) self.old remaining force.now used scratch.old n (sofar self.old false) }
         ensures framed { Framed self.old.depth self.old self.new }
         ensures sound { Sound self.new.choices self.new.lines }
         ensures cells { take used scratch.new ≡ take used scratch.old }
@@ -97,9 +97,9 @@ impl<P: Price> Search<P> {
         used: usize,
         scratch: &mut [P],
     ) -> bool
-        requires ok { State (B.Book.meaning book.now) self.old self.old.depth remaining force.now used (length scratch.old) }
+        requires ok { State (B.meaning book.now) self.old self.old.depth remaining force.now used (length scratch.old) }
         requires some { 0 < remaining }
-        ensures state { (n : ℕ) → length (bays_from remaining 0) ≤ n + 1 → sofar self.new result ≡ passing P.Price.ops (B.Book.meaning book.now) (answers_of (K.Picker.answer picker.now)) self.old remaining force.now used scratch.old n (sofar self.old false) }
+        ensures state { (n : ℕ) → length (bays_from remaining 0) ≤ n + 1 → sofar self.new result ≡ passing P.ops (B.meaning book.now) (answers_of (K.answer picker.now)) self.old remaining force.now used scratch.old n (sofar self.old false) }
         ensures framed { Framed self.old.depth self.old self.new }
         ensures sound { Sound self.new.choices self.new.lines }
         ensures cells { take used scratch.new ≡ take used scratch.old }
@@ -126,16 +126,16 @@ impl<P: Price> Search<P> {
         scratch: &mut [P],
         next: Decision,
     ) -> bool
-        requires ok { State (B.Book.meaning book.now) self.old self.old.depth remaining force.now used (length scratch.old) }
+        requires ok { State (B.meaning book.now) self.old self.old.depth remaining force.now used (length scratch.old) }
         requires remains { member next.bay (bays_from remaining 0) ≡ true }
         requires rests { bays_from rest 0 ≡ drop_bay next.bay (bays_from remaining 0) }
         requires opened { Open self.old.choices rest }
         requires small { rest < 2 ^ 24 }
-        requires nears { (i : ℕ) → has next.near i ≡ is_near (B.Book.meaning book.now) self.old.lines force.now remaining next.bay i }
+        requires nears { (i : ℕ) → has next.near i ≡ is_near (B.meaning book.now) self.old.lines force.now remaining next.bay i }
         requires short { length (bays_from next.near 0) ≤ 4 }
         requires whole { next.size ≡ product (byte_of self.old.choices) (bays_from next.near 0) }
         requires fits { next.size ≤ length scratch.old - used }
-        ensures state { (n : ℕ) → length (bays_from rest 0) ≤ n → sofar self.new result ≡ folding P.Price.ops (B.Book.meaning book.now) (answers_of (K.Picker.answer picker.now)) self.old rest force.now used scratch.old next.bay next.size n (sofar self.old false) }
+        ensures state { (n : ℕ) → length (bays_from rest 0) ≤ n → sofar self.new result ≡ folding P.ops (B.meaning book.now) (answers_of (K.answer picker.now)) self.old rest force.now used scratch.old next.bay next.size n (sofar self.old false) }
         ensures framed { Framed self.old.depth self.old self.new }
         ensures sound { Sound self.new.choices self.new.lines }
         ensures cells { take used scratch.new ≡ take used scratch.old }
@@ -181,10 +181,10 @@ impl<P: Price> Search<P> {
         scratch: &mut [P],
         bay: u8,
     ) -> bool
-        requires ok { State (B.Book.meaning book.now) self.old self.old.depth rest force.now used (length scratch.old) }
+        requires ok { State (B.meaning book.now) self.old self.old.depth rest force.now used (length scratch.old) }
         requires deeper { self.old.depth + length (bays_from rest 0) < 24 }
         requires inside { bay < 24 }
-        ensures state { (n : ℕ) → length (bays_from rest 0) ≤ n → sofar self.new result ≡ branching P.Price.ops (B.Book.meaning book.now) (answers_of (K.Picker.answer picker.now)) self.old self.old.depth rest force.now used scratch.old bay (slice_index self.old.choices bay) n (sofar self.old false) }
+        ensures state { (n : ℕ) → length (bays_from rest 0) ≤ n → sofar self.new result ≡ branching P.ops (B.meaning book.now) (answers_of (K.answer picker.now)) self.old self.old.depth rest force.now used scratch.old bay (slice_index self.old.choices bay) n (sofar self.old false) }
         ensures framed { Framed self.old.depth self.old self.new }
         ensures sound { Sound self.new.choices self.new.lines }
         ensures cells { take used scratch.new ≡ take used scratch.old }
@@ -217,13 +217,13 @@ impl<P: Price> Search<P> {
         bay: u8,
         n: u8,
     ) -> bool
-        requires ok { State (B.Book.meaning book.now) self.old (self.old.depth - 1) rest force.now used (length scratch.old) }
+        requires ok { State (B.meaning book.now) self.old (self.old.depth - 1) rest force.now used (length scratch.old) }
         requires opens { 0 < self.old.depth }
         requires newest { (line_at self.old.lines (self.old.depth - 1)).folded ≡ false }
         requires newest_bay { (line_at self.old.lines (self.old.depth - 1)).bay ≡ bay }
         requires inside { bay < 24 }
         requires tries { n ≤ slice_index self.old.choices bay }
-        ensures state { (k : ℕ) → length (bays_from rest 0) ≤ k → sofar self.new result ≡ branching P.Price.ops (B.Book.meaning book.now) (answers_of (K.Picker.answer picker.now)) self.old (self.old.depth - 1) rest force.now used scratch.old bay n k (sofar self.old false) }
+        ensures state { (k : ℕ) → length (bays_from rest 0) ≤ k → sofar self.new result ≡ branching P.ops (B.meaning book.now) (answers_of (K.answer picker.now)) self.old (self.old.depth - 1) rest force.now used scratch.old bay n k (sofar self.old false) }
         ensures framed { Framed (self.old.depth - 1) self.old self.new }
         ensures newest { (line_at self.new.lines (self.new.depth - 1)).folded ≡ false }
         ensures newest_bay { (line_at self.new.lines (self.new.depth - 1)).bay ≡ bay }

@@ -27,8 +27,8 @@ impl<B> Evening<B> {
 impl<B: Book> Evening<B> {
     // Holds a bay to a choice, whatever it was pinned to before.
     pub fn pin(&mut self, bay: u32, choice: u32) -> Result<(), Refusal>
-        ensures sheet { BySheet B.Book.meaning (Pin bay choice) (of_mark result) self.old self.new }
-        ensures answer { of_mark result ≡ pinning (B.Book.meaning (below_of self.old)) bay choice }
+        ensures sheet { BySheet B.meaning (Pin bay choice) (of_mark result) self.old self.new }
+        ensures answer { of_mark result ≡ pinning (B.meaning (below_of self.old)) bay choice }
         ensures state { MatchResult result (λ _. Repinned self.old bay (Some choice) self.new) (λ _. self.new ≡ self.old) }
     {
         if bay as usize >= self.book.bays() || choice >= self.book.choices(bay as usize) as u32 {
@@ -40,8 +40,8 @@ impl<B: Book> Evening<B> {
 
     // Lets a pinned bay have any of its choices again.
     pub fn unpin(&mut self, bay: u32) -> Result<(), Refusal>
-        ensures sheet { BySheet B.Book.meaning (Unpin bay) (of_mark result) self.old self.new }
-        ensures answer { of_mark result ≡ unpinning (B.Book.meaning (below_of self.old)) (pin_at self.old bay) bay }
+        ensures sheet { BySheet B.meaning (Unpin bay) (of_mark result) self.old self.new }
+        ensures answer { of_mark result ≡ unpinning (B.meaning (below_of self.old)) (pin_at self.old bay) bay }
         ensures state { MatchResult result (λ _. Repinned self.old bay None self.new) (λ _. self.new ≡ self.old) }
     {
         if bay as usize >= self.book.bays() {
@@ -56,8 +56,8 @@ impl<B: Book> Evening<B> {
 
     // Leaves a rule out.
     pub fn suspend(&mut self, rule: u32) -> Result<(), Refusal>
-        ensures sheet { BySheet B.Book.meaning (Suspend rule) (of_mark result) self.old self.new }
-        ensures answer { of_mark result ≡ suspending (B.Book.meaning (below_of self.old)) (off_at self.old rule) rule }
+        ensures sheet { BySheet B.meaning (Suspend rule) (of_mark result) self.old self.new }
+        ensures answer { of_mark result ≡ suspending (B.meaning (below_of self.old)) (off_at self.old rule) rule }
         ensures state { MatchResult result (λ _. Turned self.old rule true self.new) (λ _. self.new ≡ self.old) }
     {
         if rule as usize >= self.book.rules() {
@@ -72,8 +72,8 @@ impl<B: Book> Evening<B> {
 
     // Puts a suspended rule in force again.
     pub fn resume(&mut self, rule: u32) -> Result<(), Refusal>
-        ensures sheet { BySheet B.Book.meaning (Resume rule) (of_mark result) self.old self.new }
-        ensures answer { of_mark result ≡ resuming (B.Book.meaning (below_of self.old)) (off_at self.old rule) rule }
+        ensures sheet { BySheet B.meaning (Resume rule) (of_mark result) self.old self.new }
+        ensures answer { of_mark result ≡ resuming (B.meaning (below_of self.old)) (off_at self.old rule) rule }
         ensures state { MatchResult result (λ _. Turned self.old rule false self.new) (λ _. self.new ≡ self.old) }
     {
         if rule as usize >= self.book.rules() {

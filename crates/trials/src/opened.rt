@@ -13,7 +13,7 @@ use prices::price::Price;
 impl<B: Book> Evening<B> {
     // No bay is pinned, no rule suspended and no trial open.
     pub fn new(number: u32, book: B) -> Evening<B>
-        ensures sheet { Follows B.Book.meaning (ground number (B.Book.meaning book)) result [] }
+        ensures sheet { Follows B.meaning (ground number (B.meaning book)) result [] }
         ensures below { below_of result ≡ book }
     {
         let marks = Marks {
@@ -31,14 +31,14 @@ impl<B: Book> Evening<B> {
     // The number that the evening was opened under.
     pub fn number(&self) -> u32
         ensures is { result ≡ self.now.number }
-        ensures sheet { (g : Ground B.Cost) (s : Sheet) → Follows B.Book.meaning g self.now s → result ≡ g.number }
+        ensures sheet { (g : Ground B.Cost) (s : Sheet) → Follows B.meaning g self.now s → result ≡ g.number }
     {
         self.number
     }
 
     pub fn open_trials(&self) -> u8
         ensures is { result ≡ self.now.depth }
-        ensures sheet { (g : Ground B.Cost) (s : Sheet) → Follows B.Book.meaning g self.now s → result ≡ openings s }
+        ensures sheet { (g : Ground B.Cost) (s : Sheet) → Follows B.meaning g self.now s → result ≡ openings s }
     {
         self.depth
     }
@@ -46,14 +46,14 @@ impl<B: Book> Evening<B> {
     // The choice that a bay is pinned to.
     pub fn pin_of(&self, bay: u32) -> Option<u8>
         ensures is { result ≡ pin_at self.now bay }
-        ensures sheet { (g : Ground B.Cost) (s : Sheet) → Follows B.Book.meaning g self.now s → result ≡ pin_of s bay }
+        ensures sheet { (g : Ground B.Cost) (s : Sheet) → Follows B.meaning g self.now s → result ≡ pin_of s bay }
     {
         self.book.pin_of(bay as usize)
     }
 
     pub fn is_suspended(&self, rule: u32) -> bool
         ensures is { result ≡ off_at self.now rule }
-        ensures sheet { (g : Ground B.Cost) (s : Sheet) → Follows B.Book.meaning g self.now s → result ≡ off_of s rule }
+        ensures sheet { (g : Ground B.Cost) (s : Sheet) → Follows B.meaning g self.now s → result ≡ off_of s rule }
     {
         self.book.below.is_suspended(rule as usize)
     }
@@ -61,7 +61,7 @@ impl<B: Book> Evening<B> {
     // The book that plans are made of: pins over suspensions over the book below.
     pub fn pile(&self) -> &Pins<Suspensions<B>>
         ensures is { result.now ≡ self.now.book }
-        ensures sheet { (g : Ground B.Cost) (s : Sheet) → Follows B.Book.meaning g self.now s → pile_book B.Cost.Price.ops B.Book.meaning result.now ≡ sheet_book B.Cost.Price.ops g s }
+        ensures sheet { (g : Ground B.Cost) (s : Sheet) → Follows B.meaning g self.now s → pile_book B.Cost.ops B.meaning result.now ≡ sheet_book B.Cost.ops g s }
     {
         &self.book
     }

@@ -84,7 +84,7 @@ fn closed(slot: &mut Option<Ticket>, answer: Result<(), Returned>) -> Outcome
 }
 
 fn close<B: Book>(evening: &mut Evening<B>, ticket: Ticket, keeps: bool) -> Result<(), Returned>
-    ensures { BySheet B.Book.meaning (close_of keeps ticket.number ticket.depth) (of_close result) evening.old evening.new }
+    ensures { BySheet B.meaning (close_of keeps ticket.number ticket.depth) (of_close result) evening.old evening.new }
 {
     if keeps {
         evening.keep(ticket)
@@ -94,7 +94,7 @@ fn close<B: Book>(evening: &mut Evening<B>, ticket: Ticket, keeps: bool) -> Resu
 }
 
 fn open_at<B: Book>(evening: &mut Evening<B>, rack: &mut [Option<Ticket>], place: usize) -> Outcome
-    ensures { ByRack B.Book.meaning evening.old rack.old (act.Open place) result evening.new rack.new }
+    ensures { ByRack B.meaning evening.old rack.old (act.Open place) result evening.new rack.new }
 {
     if place >= rack.len() || rack[place].is_some() {
         return Outcome::NoCall;
@@ -116,7 +116,7 @@ fn close_at<B: Book>(
     place: usize,
     keeps: bool,
 ) -> Outcome
-    ensures { ByRack B.Book.meaning evening.old rack.old (closing_at keeps place) result evening.new rack.new }
+    ensures { ByRack B.meaning evening.old rack.old (closing_at keeps place) result evening.new rack.new }
 {
     if place >= rack.len() {
         return Outcome::NoCall;
@@ -136,7 +136,7 @@ pub fn act<B: Book>(
     rack: &mut [Option<Ticket>],
     action: Action,
 ) -> Outcome
-    ensures { ByRack B.Book.meaning evening.old rack.old action result evening.new rack.new }
+    ensures { ByRack B.meaning evening.old rack.old action result evening.new rack.new }
 {
     match action {
         Action::Pin { bay, choice } => marked(evening.pin(bay, choice)),

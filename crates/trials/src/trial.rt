@@ -78,7 +78,7 @@ impl<B> Evening<B> {
 impl<B: Book> Evening<B> {
     // Opens a trial inside those that are open, at most four, and hands out its ticket.
     pub fn open(&mut self) -> Result<Ticket, Refusal>
-        ensures sheet { BySheet B.Book.meaning Open (of_open result) self.old self.new }
+        ensures sheet { BySheet B.meaning Open (of_open result) self.old self.new }
         ensures answer { of_open result ≡ opening self.old.number self.old.depth }
         ensures state { MatchResult result (λ _. Opened self.old self.new) (λ _. self.new ≡ self.old) }
     {
@@ -94,7 +94,7 @@ impl<B: Book> Evening<B> {
 
     // Closes the newest trial; its pins and suspensions stay.
     pub fn keep(&mut self, ticket: Ticket) -> Result<(), Returned>
-        ensures sheet { BySheet B.Book.meaning (Keep ticket.number ticket.depth) (of_close result) self.old self.new }
+        ensures sheet { BySheet B.meaning (Keep ticket.number ticket.depth) (of_close result) self.old self.new }
         ensures answer { of_close result ≡ closing self.old.number self.old.depth ticket.number ticket.depth }
         ensures state { MatchResult result (λ _. Closed self.old (marks_of self.old) self.new) (λ back. (back.ticket ≡ ticket) × (self.new ≡ self.old)) }
     {
@@ -109,7 +109,7 @@ impl<B: Book> Evening<B> {
 
     // Closes the newest trial; pins and suspensions are again as they were when it was opened.
     pub fn drop(&mut self, ticket: Ticket) -> Result<(), Returned>
-        ensures sheet { BySheet B.Book.meaning (Drop ticket.number ticket.depth) (of_close result) self.old self.new }
+        ensures sheet { BySheet B.meaning (Drop ticket.number ticket.depth) (of_close result) self.old self.new }
         ensures answer { of_close result ≡ closing self.old.number self.old.depth ticket.number ticket.depth }
         ensures state { MatchResult result (λ _. Closed self.old (saved_last self.old) self.new) (λ back. (back.ticket ≡ ticket) × (self.new ≡ self.old)) }
     {

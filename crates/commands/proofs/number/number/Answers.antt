@@ -3,7 +3,7 @@ use Rattle.std.proofs.Common.{sym, ap, ◌∙◌, arith, rules}
 use Rattle.commands.specs.Numbers.{held, onwards}
 use Rattle.commands.proofs.Runs.{tail, onwards_more, onwards_end, onwards_stop, numeral_first}
 use Rattle.commands.proofs.number.number.Goals as goal
-use Rattle.commands.proofs.number.number.Goals.{in_default-default, in-len1-up-rest+in_default-digit}
+use Rattle.commands.proofs.number.number.Goals.{in_default-rest, in-len1-up-rest+in_default-digit}
 
 pub loop-rest-init : goal.loop-rest-init
 loop-rest-init c = (
@@ -21,7 +21,7 @@ loop-rest-preserved c = (
 pub returns : goal.returns
 returns c = record {
   is = c.loop-rest.invariant.0 ∙ elim c.if-rest-lt1.branch [
-    | in_default-default w ↦ onwards_end c.loop-rest.n c.loop-rest.rest.now c.loop-rest.invariant.1 (search rules)
+    | in_default-rest w ↦ onwards_end c.loop-rest.n c.loop-rest.rest.now c.loop-rest.invariant.1 (search rules)
     | in-len1-up-rest+in_default-digit w ↦ onwards_stop c.loop-rest.n c.loop-rest.rest.now c.loop-rest.invariant.1 (search rules) w.in_default-digit.ensures.is
   ];
   small = c.loop-rest.invariant.1;

@@ -6,7 +6,7 @@ use Rattle.reader.proofs.pieces.+table_size.Goals as goal
 use Rattle.reader.proofs.pieces.+table_size.Goals.{After-table_size}
 
 bound : (t : ℕ) (c : After-table_size t) → c.from.result * c.table_size.result ≤ 256 ^ length c.args.scope.now
-bound t c = size_bound c.args.scope.now _ _ (search rules) (omega (arith, c.from.ensures, c.choices_of.type-inv)) c.table_size.ensures.bound
+bound t c = size_bound c.args.scope.now _ _ (search rules) (omega (arith, c.from.ensures, c.choices_of.type_inv)) c.table_size.ensures.bound
 
 pub overflow_mul-result : goal.overflow_mul-result
 overflow_mul-result t c =

@@ -11,7 +11,7 @@ returns g c =
     let mark = g.P.Stored.letters in
     let top = g.P.Stored.top in
     let small : top < 256 ^ 4 = g.met.P.Stored.four in
-    let all : (i : ℕ) → get_or bs i 0 < 256 = λ i. omega (arith, c.type-inv.bytes i) in
+    let all : (i : ℕ) → get_or bs i 0 < 256 = λ i. omega (arith, c.type_inv.bytes i) in
     record {
       finds = c.found.ensures;
       means = MatchResult-weaker c.found.result c.found.ensures

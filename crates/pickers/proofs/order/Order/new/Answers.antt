@@ -10,7 +10,7 @@ pub returns-in_default : goal.returns-in_default
 returns-in_default c = let xs = c.args.list.now in (and_left _ (every 24 (λ b. eqb (times b xs) 1)) (ne_eqb (length xs) 24 c.in_default.ensures.1), refl)
 
 pub invariant_of-result : goal.invariant_of-result
-invariant_of-result c = let w = c.in-Ok.ensures.1 in (permutes_is c.in-Ok.bays (ap length w.same ∙ w.long) ∙ eq-eqb _ _ (sym c.gathered.ensures ∙ c.if-gathered-eq16777215.true), tt)
+invariant_of-result c = let w = c.in-Ok.ensures.1 in record { each = permutes_is c.in-Ok.bays (ap length w.same ∙ w.long) ∙ eq-eqb _ _ (sym c.gathered.ensures ∙ c.if-gathered-eq16777215.true) }
 
 pub returns-then-gathered-eq16777215 : goal.returns-then-gathered-eq16777215
 returns-then-gathered-eq16777215 c =

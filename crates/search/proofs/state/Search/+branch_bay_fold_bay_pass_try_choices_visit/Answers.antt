@@ -192,7 +192,7 @@ fold_bay-returns g t c =
           (ap (λ (y : List ℕ). folds_of K m y p.lines cells' p.depth) pe.same.choices ∙ ap (folds_of K m a.choices p.lines cells') pe.depth)
           (sofar_same a p false (record { choices = pe.same.choices; best = pe.same.best; found = pe.same.found; plan = pe.same.plan; count = pe.same.count; limit = pe.same.limit; k = pe.same.k }))
           ∙ fold_core K m a.choices a.lines p.lines cells cells' a.depth used next.bay next.near next.size c.args.remaining force c.folded_force-after.result set
-          (omega (arith, c.choices_set-set.type-inv)) st.opened legal deep st.tabled st.stack keeps at c.fill.ensures.kept c.fill.ensures.table c.folded_force-after.ensures c.requires.remains c.requires.nears c.requires.whole
+          (omega (arith, c.choices_set-set.type_inv)) st.opened legal deep st.tabled st.stack keeps at c.fill.ensures.kept c.fill.ensures.table c.folded_force-after.ensures c.requires.remains c.requires.nears c.requires.whole
           pick a.k a.limit n c.args.rest (length cells - used - next.size) (sofar a false) c.requires.rests
           ∙ ap (λ (σ : Plan). visit (setup_of K a.choices pick a.k a.limit) n (bays_from c.args.rest 0) (folded K (byte_of a.choices) next.bay ts) (length cells - used - next.size) σ (record { bay = next.bay; terms = ts } ∷ folds_of K m a.choices a.lines cells a.depth) (sofar a false)) c.choices_set-set.ensures;
       framed = record {
