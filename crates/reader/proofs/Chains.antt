@@ -13,6 +13,13 @@ module _ {S A : Type 0} (R : S → List ℕ → Got A) (next : S → A → S) wh
   mapped_mapped xs x (bad e) = refl
   mapped_mapped xs x (got ys r) = ap (λ l. got l r) (sym (append_assoc xs (x ∷ []) ys))
 
+  mapped_none : (g : Got (List A)) → g ≡ mapped (λ ys. [] ++ ys) g
+  mapped_none (bad e) = refl
+  mapped_none (got ys r) = refl
+
+  pub after_start : (n : ℕ) (s : S) (rest : List ℕ) → chain R next n s rest ≡ After [] (n - 0) s rest
+  after_start n s rest = let z : n - 0 ≡ n = omega arith in rw z (mapped_none (chain R next n s rest))
+
   less_one : (n i : ℕ) → i < n → n - i ≡ suc (n - (i + 1))
   less_one n i h = omega (arith, add-one (n - (i + 1)))
 

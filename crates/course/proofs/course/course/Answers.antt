@@ -9,7 +9,7 @@ use Rattle.course.proofs.course.course.Goals as goal
 
 pub returns : goal.returns
 returns g c =
-    let o = g.Cost.Price.ops in
+    let o = g.B.Cost.Price.ops in
     let m = g.B.Book.meaning c.args.book.now in
     let laws = g.met.B.Book.lawful c.args.book.now in
     let pick = g.K.Picker.answer c.args.picker.now in

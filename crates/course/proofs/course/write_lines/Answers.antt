@@ -23,4 +23,4 @@ returns g c =
     ∙ ap (λ (x : ℤ). put c.args.lines.now 0 (course_of pick c.tries-choices.result x c.args.bays c.start.result c.first_bays.result c.args.cells)) k_is
     ∙ ap₂ (λ (cs ms : List ℕ). put c.args.lines.now 0 (course_of pick cs c.args.k c.args.bays ms c.first_bays.result c.args.cells)) c.tries-choices.ensures c.start.ensures
     ∙ ap₂ (λ (n r : ℕ). put c.args.lines.now 0 (course_of pick (tries_of m.choices) c.args.k n (sets_of m.scope m.rules) r c.args.cells)) c.requires.all (c.first_bays.ensures ∙ ap (λ (n : ℕ). 2 ^ n - 1) c.requires.all)
-    ∙ filled g.Cost.Price.ops m (g.met.B.Book.lawful c.args.book.now) pick (g.met.K.Picker.remains c.args.picker.now) c.args.k c.args.cells c.args.lines.now c.requires.room
+    ∙ filled g.B.Cost.Price.ops m (g.met.B.Book.lawful c.args.book.now) pick (g.met.K.Picker.remains c.args.picker.now) c.args.k c.args.cells c.args.lines.now c.requires.room

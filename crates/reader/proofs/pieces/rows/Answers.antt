@@ -1,11 +1,19 @@
-use Rattle.std.proofs.Common.{◌+◌, ◌*◌, ◌<◌, ◌≤◌, length, get_or, ◌∙◌, arith}
+use Rattle.std.proofs.Common.{◌+◌, ◌*◌, ◌<◌, ◌≤◌, length, get_or, refl, ◌∙◌, arith}
 use Rattle.std.proofs.lemmas.Result.{err_from_is_err_and}
 use Rattle.std.proofs.lemmas.List.{length-set}
 use Rattle.format.specs.Steps.{times, cell_of}
-use Rattle.reader.proofs.Chains.{after_bad}
+use Rattle.reader.proofs.Chains.{after_bad, after_start}
 use Rattle.reader.specs.Finds.{Cells}
 use Rattle.reader.proofs.Steps.{rows_more, places_hold}
 use Rattle.reader.proofs.pieces.rows.Goals as goal
+
+pub loop-i-init : goal.loop-i-init
+loop-i-init c = (
+  c.requires.0,
+  refl,
+  (λ j h. absurd (omega arith)),
+  after_start (λ i. times (get_or c.args.counts.now i 0) (cell_of c.args.top)) (λ i _. i + 1) (length c.args.counts.now) 0 _,
+)
 
 pub returns-in_err-end : goal.returns-in_err-end
 returns-in_err-end c =

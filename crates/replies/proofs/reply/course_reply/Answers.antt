@@ -13,7 +13,7 @@ returns-in-Ok g c =
     let k_is : to_z w64 (of_z w64 k) ≡ k = to_z-of_z w64 k c.ranges.k in
     let bays = c.rising.result.bays in
     let was = c.blank_lines-lines.result in
-    let e = told_course g.Cost.Price.ops m (g.met.B.Book.lawful c.args.book.now) bays c.rising.ensures k c.args.cells was c.course.new.lines c.in-Ok.forecast c.bays.result
+    let e = told_course g.B.Cost.Price.ops m (g.met.B.Book.lawful c.args.book.now) bays c.rising.ensures k c.args.cells was c.course.new.lines c.in-Ok.forecast c.bays.result
     c.blank_lines-lines.ensures c.bays.ensures
     (c.in-Ok.ensures.answers ∙ ap (λ (z : ℤ). reply m (by_order bays) z c.args.cells (length was)) k_is)
     (c.in-Ok.ensures.writes ∙ ap (λ (z : ℤ). after m (by_order bays) z c.args.cells was) k_is) in

@@ -11,7 +11,7 @@ use Rattle.search.proofs.back.+read_back.Goals as goal
 
 pub returns-then-depth-eq0 : goal.returns-then-depth-eq0
 returns-then-depth-eq0 g t c =
-    let K = g.Cost.Price.ops in
+    let K = g.B.Cost.Price.ops in
     let m = g.B.Book.meaning c.args.book.now in
     let cs = c.args.choices.now in
     let z : c.args.depth ≡ 0 = omega arith in
@@ -19,7 +19,7 @@ returns-then-depth-eq0 g t c =
 
 pub returns-then-not-lines-last : goal.returns-then-not-lines-last
 returns-then-not-lines-last g t c =
-    let K = g.Cost.Price.ops in
+    let K = g.B.Cost.Price.ops in
     let m = g.B.Book.meaning c.args.book.now in
     let cs = c.args.choices.now in
     let z : c.args.depth ≡ c.args.depth - 1 + 1 = omega arith in
@@ -27,7 +27,7 @@ returns-then-not-lines-last g t c =
 
 pub read_back-requires-2 : goal.read_back-requires-2
 read_back-requires-2 g t c κs within =
-    let K = g.Cost.Price.ops in
+    let K = g.B.Cost.Price.ops in
     let m = g.B.Book.meaning c.args.book.now in
     let cs = c.args.choices.now in
     let l = line_at c.args.lines.now (c.args.depth - 1) in
@@ -38,7 +38,7 @@ read_back-requires-2 g t c κs within =
 
 pub returns : goal.returns
 returns g t c =
-    let K = g.Cost.Price.ops in
+    let K = g.B.Cost.Price.ops in
     let m = g.B.Book.meaning c.args.book.now in
     let cs = c.args.choices.now in
     let lines = c.args.lines.now in

@@ -8,19 +8,19 @@ use Rattle.search.proofs.settle.+charge.Goals as goal
 
 pub returns-then-number-ge112 : goal.returns-then-number-ge112
 returns-then-number-ge112 g t c =
-    let K = g.Cost.Price.ops in
+    let K = g.B.Cost.Price.ops in
     c.free.ensures ∙ sym (ap (λ (ts : List (Term _)). cost K (touching c.args.bay ts) (byte_of c.args.plan.now))
     (terms_end K (g.B.Book.meaning c.args.book.now) c.args.choices.now c.args.lines.now c.args.scratch.now c.args.force.now c.args.number (omega arith)))
 
 pub returns-then-not-force-number : goal.returns-then-not-force-number
 returns-then-not-force-number g t c =
-    let K = g.Cost.Price.ops in
+    let K = g.B.Cost.Price.ops in
     c.charge-rest.ensures ∙ sym (ap (λ (ts : List (Term _)). cost K (touching c.args.bay ts) (byte_of c.args.plan.now))
     (terms_out K (g.B.Book.meaning c.args.book.now) c.args.choices.now c.args.lines.now c.args.scratch.now c.args.force.now c.args.number (omega arith) c.if-not-force-number.true))
 
 pub returns-then-not-holds : goal.returns-then-not-holds
 returns-then-not-holds g t c =
-    let K = g.Cost.Price.ops in
+    let K = g.B.Cost.Price.ops in
     let m = g.B.Book.meaning c.args.book.now in
     let b = c.args.bay in
     let π = byte_of c.args.plan.now in
@@ -32,7 +32,7 @@ returns-then-not-holds g t c =
 
 pub returns : goal.returns
 returns g t c =
-    let K = g.Cost.Price.ops in
+    let K = g.B.Cost.Price.ops in
     let m = g.B.Book.meaning c.args.book.now in
     let b = c.args.bay in
     let π = byte_of c.args.plan.now in

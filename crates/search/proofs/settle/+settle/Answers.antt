@@ -7,7 +7,7 @@ use Rattle.search.proofs.settle.+settle.Goals as goal
 
 pub returns-then-n-eq1 : goal.returns-then-n-eq1
 returns-then-n-eq1 g t c =
-    let K = g.Cost.Price.ops in
+    let K = g.B.Cost.Price.ops in
     let m = g.B.Book.meaning c.args.book.now in
     let f = trial K m c.args.choices.now c.args.lines.now c.args.scratch.now c.args.force.now c.args.bay (byte_of c.args.plan.now) in
     let last = c.charge-last.ensures ∙ ap (λ (π : Plan). charge_from K m c.args.choices.now c.args.lines.now c.args.scratch.now c.args.force.now c.args.bay π 0) (bytes_put c.args.plan.now c.args.bay (c.args.n - 1) (omega arith)) in
@@ -15,7 +15,7 @@ returns-then-n-eq1 g t c =
 
 pub returns-then-at_most : goal.returns-then-at_most
 returns-then-at_most g t c =
-    let K = g.Cost.Price.ops in
+    let K = g.B.Cost.Price.ops in
     let m = g.B.Book.meaning c.args.book.now in
     let f = trial K m c.args.choices.now c.args.lines.now c.args.scratch.now c.args.force.now c.args.bay (byte_of c.args.plan.now) in
     let last = c.charge-last.ensures ∙ ap (λ (π : Plan). charge_from K m c.args.choices.now c.args.lines.now c.args.scratch.now c.args.force.now c.args.bay π 0) (bytes_put c.args.plan.now c.args.bay (c.args.n - 1) (omega arith)) in
@@ -26,7 +26,7 @@ returns-then-at_most g t c =
 
 pub returns-else-at_most : goal.returns-else-at_most
 returns-else-at_most g t c =
-    let K = g.Cost.Price.ops in
+    let K = g.B.Cost.Price.ops in
     let m = g.B.Book.meaning c.args.book.now in
     let f = trial K m c.args.choices.now c.args.lines.now c.args.scratch.now c.args.force.now c.args.bay (byte_of c.args.plan.now) in
     let last = c.charge-last.ensures ∙ ap (λ (π : Plan). charge_from K m c.args.choices.now c.args.lines.now c.args.scratch.now c.args.force.now c.args.bay π 0) (bytes_put c.args.plan.now c.args.bay (c.args.n - 1) (omega arith)) in

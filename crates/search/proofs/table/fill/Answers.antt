@@ -22,7 +22,7 @@ settle-value-requires g c =
 
 pub loop-place-preserved : goal.loop-place-preserved
 loop-place-preserved g c =
-    let K = g.Cost.Price.ops in
+    let K = g.B.Cost.Price.ops in
     let m = g.B.Book.meaning c.args.book.now in
     let cs = c.args.choices.now in
     let xs = c.loop-place.scratch in
