@@ -32,8 +32,8 @@ decoded-requires t c =
     let e = ap length (members_in (has c.args.set) c.args.bay 24 (omega arith) (sym c.if-holds.ensures)) in
     (search rules, (omega arith, (c.requires.few, (c.requires.open, (omega arith, rw c.size-rest.ensures.is s.left)))))
 
-pub decoded-requires-else-init : goal.decoded-requires-else-init
-decoded-requires-else-init t c =
+pub decoded-requires-else-holds : goal.decoded-requires-else-holds
+decoded-requires-else-holds t c =
     let e = members_out (has c.args.set) c.args.bay 24 (omega arith) (sym c.if-holds.ensures) in
     (search rules, (omega arith, (c.requires.few, (c.requires.open, (subst (λ (bs : List ℕ). length bs ≤ 4) e c.requires.short, subst (λ (bs : List ℕ). c.args.at < product (byte_of c.args.choices.now) bs) e c.requires.within)))))
 

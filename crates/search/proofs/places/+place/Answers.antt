@@ -21,8 +21,8 @@ place-requires t c =
     let s = place_step c.args.choices.now c.args.plan.now c.args.set c.args.bay c.args.so_far (omega arith) (sym c.if-holds.ensures) c.requires.open c.requires.legal c.requires.fits in
     (search rules, (omega arith, (c.requires.open, (c.requires.legal, s.fits))))
 
-pub place-requires-else-init : goal.place-requires-else-init
-place-requires-else-init t c =
+pub place-requires-else-holds : goal.place-requires-else-holds
+place-requires-else-holds t c =
     let e = members_out (has c.args.set) c.args.bay 24 (omega arith) (sym c.if-holds.ensures) in
     (search rules, (omega arith, (c.requires.open, (c.requires.legal, subst (λ (bs : List ℕ). (c.args.so_far + 1) * product (byte_of c.args.choices.now) bs ≤ 4096) e c.requires.fits))))
 

@@ -9,8 +9,8 @@ use Rattle.search.proofs.places.+size.Goals as goal
 pub size-requires : goal.size-requires
 size-requires t c = let e = ap length (members_in (has c.args.set) c.args.bay 24 (omega arith) (sym c.if-holds.ensures)) in (search rules, (omega arith, (c.requires.few, omega arith)))
 
-pub size-requires-else-init : goal.size-requires-else-init
-size-requires-else-init t c = let e = ap length (members_out (has c.args.set) c.args.bay 24 (omega arith) (sym c.if-holds.ensures)) in (search rules, (omega arith, (c.requires.few, omega arith)))
+pub size-requires-else-holds : goal.size-requires-else-holds
+size-requires-else-holds t c = let e = ap length (members_out (has c.args.set) c.args.bay 24 (omega arith) (sym c.if-holds.ensures)) in (search rules, (omega arith, (c.requires.few, omega arith)))
 
 pub overflow_mul-result : goal.overflow_mul-result
 overflow_mul-result t c =
