@@ -1,5 +1,5 @@
 -- The text of lines and of bytes, one longer.
-use Rattle.std.proofs.Common.{◌≡◌, ℕ, List, [], ◌∷◌, ◌++◌, sym, refl, ap, ◌∙◌, append_assoc, append-nil}
+use Rattle.std.proofs.Common.{◌≡◌, ℕ, List, [], ◌∷◌, ◌++◌, sym, ap, ◌∙◌, append_assoc, append-nil}
 use Rattle.course.specs.declared.line.Line.{Line}
 use Rattle.replies.specs.Texts.{line_text, lines_text, byte_text, bytes_text}
 

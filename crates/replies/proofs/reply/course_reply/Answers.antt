@@ -1,8 +1,6 @@
-use Rattle.std.proofs.Common.{◌≡◌, ℕ, ◌-◌, List, length, take, drop, ℤ, IfOk, Ok, string_bytes, ap, ◌∙◌, subst, w64, to_z, of_z}
+use Rattle.std.proofs.Common.{◌≡◌, ℕ, List, length, ℤ, IfOk, string_bytes, ap, ◌∙◌, subst, w64, to_z, of_z}
 use Rattle.std.proofs.lemmas.Int.{to_z-of_z}
 use Rattle.course.specs.Replies.{reply, after}
-use Rattle.replies.specs.Answers.{course_answer}
-use Rattle.replies.specs.Texts.{course_text}
 use Rattle.replies.proofs.Told.{by_order, told_course}
 use Rattle.replies.proofs.reply.course_reply.Goals as goal
 

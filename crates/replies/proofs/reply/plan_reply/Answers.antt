@@ -1,4 +1,4 @@
-use Rattle.std.proofs.Common.{◌≡◌, ℕ, ◌≤◌, List, length, get_or, replicate, ℤ, IfOk, string_bytes, ◌∙◌, subst, ap₂, arith, w64, to_z, of_z}
+use Rattle.std.proofs.Common.{◌≡◌, ℕ, ◌≤◌, List, length, replicate, ℤ, IfOk, string_bytes, ◌∙◌, subst, ap₂, arith, w64, to_z, of_z}
 use Rattle.std.proofs.lemmas.Int.{to_z-of_z}
 use Rattle.prices.specs.Amounts.{sums, taken}
 use Rattle.search.specs.Start.{reply, bytes_after}
