@@ -1,4 +1,6 @@
 // Sets of bays as numbers of 32 bits, and the neighbour sets of 24 bays. A bay that fits no set is in none.
+#![tactic(auto)]
+
 ghost use Rattle.std.specs.Prelude.{◌≡◌, count_ones, slice_index};
 ghost use Rattle.bays.specs.Neighbours.{joined, connected};
 ghost use Rattle.model.specs.Sets.{has as has_of, minus, one};

@@ -1,5 +1,5 @@
 -- What it takes for bytes to begin with a plan, and sums of prices one longer.
-use Rattle.std.proofs.Common.{◌≡◌, ℕ, zero, suc, ◌+◌, ◌<◌, ◌≤◌, Bool, true, false, ◌&&◌, ltb, List, length, get_or, refl, ap, ◌∙◌, add-one, arith, le-ltb, lt-ltb}
+use Rattle.std.proofs.Common.{◌≡◌, ℕ, zero, suc, ◌+◌, ◌<◌, ◌≤◌, true, false, ◌&&◌, ltb, List, length, get_or, refl, ap, ◌∙◌, add-one, arith, le-ltb, lt-ltb}
 use mathlib.Core.Bool.{and-false}
 use native.Mathlib.Decide.{dec_lt}
 use borrow.Author.Tests.{both_ways}

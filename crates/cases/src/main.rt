@@ -7,6 +7,8 @@
 //   L PICKER k cells limit ceiling bytes   a plan over the pile, with so many cells of scratch and so many plan bytes
 // The picker is `order`, from 0 to 23, `order:` and numbers parted by commas, or `fewest`. After a refused book every line up to
 // the next `E` answers `closed`; a line of another form answers `unread`.
+#![tactic(auto)]
+
 mod case;
 mod courses;
 mod hex;

@@ -1,4 +1,6 @@
 // The command lines of the program, read into commands.
+#![tactic(auto)]
+
 mod command;
 mod field;
 mod line;

@@ -1,5 +1,5 @@
 -- What an accepted call for a course answers.
-use Rattle.std.proofs.Common.{◌≡◌, ℕ, ◌-◌, ◌^◌, ◌<◌, ◌≤◌, Bool, true, false, cond, not, ◌&&◌, ltb, List, ◌++◌, map, length, take, drop, ℤ, pos, negsuc, Some, None, Ok, Err, sym, refl, ap, ◌∙◌, subst, ap₂, arith}
+use Rattle.std.proofs.Common.{◌≡◌, ℕ, ◌-◌, ◌^◌, ◌<◌, ◌≤◌, Bool, true, false, cond, not, ◌&&◌, List, ◌++◌, map, length, take, drop, ℤ, pos, negsuc, Some, None, Ok, Err, sym, refl, ap, ◌∙◌, subst, ap₂, arith}
 use lib.Signed.{le_z}
 use Rattle.std.proofs.lemmas.Bool.{le-ltb}
 use Rattle.model.specs.Books.{Meaning, BookLaws}

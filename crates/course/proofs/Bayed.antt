@@ -1,14 +1,13 @@
 -- The bays of a set as a list.
-use Rattle.std.proofs.Common.{◌≡◌, ℕ, zero, suc, ◌+◌, ◌-◌, ◌*◌, ◌/◌, ◌%◌, ◌^◌, ◌<◌, ◌≤◌, Bool, true, false, cond, not, ◌&&◌, ◌||◌, eqb, ltb, ◌⊎◌, List, [], ◌∷◌, ◌++◌, map, length, get_or, sym, refl, ap, ◌∙◌, subst, ap₂, ⊎_elim, arith, pow_pos}
-use mathlib.Core.Path.{fun_ext}
-use native.Mathlib.Nat.{pow-succ', div-eq_of_lt}
+use Rattle.std.proofs.Common.{◌≡◌, ℕ, zero, suc, ◌+◌, ◌*◌, ◌/◌, ◌^◌, ◌<◌, Bool, true, false, cond, not, ◌&&◌, eqb, ◌∷◌, length, sym, refl, ap, ◌∙◌, arith}
+use native.Mathlib.Nat.{pow-succ'}
 use lib.Count.{ones, ones_step}
 use Rattle.std.specs.List.{range_with_len}
-use Rattle.std.proofs.lemmas.Bool.{cases_lt, cases_Bool, eqb-true, eq-eqb, ne_eqb, lt-ltb, ltb-true, both_ways}
+use Rattle.std.proofs.lemmas.Bool.{eqb-true, eq-eqb, both_ways}
 use Rattle.model.specs.Sets.{bit, has, one, minus}
 use Rattle.model.proofs.Bits.{bit_suc, bit_zero, same_set, has_minus, has_one, has_below, bit_below}
 use Rattle.model.proofs.Kept.{keep_keep, keep_same, turn, member_keep, counting_in}
-use Rattle.model.specs.Lists.{keep, any, member}
+use Rattle.model.specs.Lists.{keep, member}
 use Rattle.model.specs.Course.{drop_bay}
 use Rattle.course.specs.Masks.{bays_of}
 use Rattle.course.specs.Views.{mask, set_of}

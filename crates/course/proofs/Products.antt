@@ -1,8 +1,7 @@
 -- Products over the bays of a set.
-use Rattle.std.proofs.Common.{◌≡◌, ℕ, zero, suc, ◌+◌, ◌*◌, ◌<◌, ◌≤◌, min, Bool, true, false, cond, List, [], ◌∷◌, ◌++◌, sym, refl, ap, ◌∙◌, ap₂, ⊎_elim, mul_assoc, one-mul, mul-zero, zero-mul, mul-one, le-mul_of_pos_right, add-one, arith}
+use Rattle.std.proofs.Common.{◌≡◌, ℕ, zero, suc, ◌+◌, ◌*◌, Bool, true, false, cond, List, [], ◌∷◌, ◌++◌, sym, refl, ap, ◌∙◌, ⊎_elim, mul_assoc, one-mul, mul-zero, mul-one, le-mul_of_pos_right, add-one, arith}
 use Rattle.std.specs.List.{range_with_len}
 use Rattle.std.proofs.lemmas.Bool.{cases_lt}
-use Rattle.std.proofs.lemmas.List.FromFn.{map-range_with_len_more}
 use Rattle.model.specs.Sets.{has}
 use Rattle.model.specs.Lists.{keep, product}
 use Rattle.model.proofs.Kept.{counting_more, keep_append}

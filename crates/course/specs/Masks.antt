@@ -1,6 +1,6 @@
 -- The course worked out on sets of bays as numbers, step by step as the code takes it. Its lines are those of the course
 -- that the model defines.
-use Rattle.std.specs.Prelude.{ℕ, zero, suc, ◌+◌, ◌-◌, ◌*◌, min, Bool, cond, ◌&&◌, List, [], ◌∷◌, map, set, ℤ, pos, bit_or, count_ones, int_le, nat_le, slice_index, slice_set}
+use Rattle.std.specs.Prelude.{ℕ, zero, suc, ◌+◌, ◌-◌, ◌*◌, min, Bool, cond, ◌&&◌, List, [], ◌∷◌, map, ℤ, pos, bit_or, count_ones, int_le, nat_le, slice_index, slice_set}
 use Rattle.std.specs.List.{range_with_len}
 use Rattle.bays.specs.Neighbours.{connected}
 use Rattle.model.specs.Lists.{keep, product}

@@ -1,10 +1,9 @@
 -- What a call for a course answers, and what its lines hold after it.
-use Rattle.std.specs.Prelude.{◌≡◌, ℕ, Bool, cond, not, ◌&&◌, ◌||◌, List, ◌++◌, map, length, take, drop, ℤ, pos, negsuc, Ok, Err, Result, int_le, nat_lt}
+use Rattle.std.specs.Prelude.{◌≡◌, ℕ, Bool, cond, not, ◌&&◌, List, ◌++◌, map, length, take, drop, ℤ, pos, negsuc, Ok, Err, Result, int_le, nat_lt}
 use Rattle.model.specs.Books.{Meaning}
 use Rattle.model.specs.Claims.{Lists, states}
 use Rattle.model.specs.Course.{course_in, forecast, capped, Line as Passed}
 use Rattle.pickers.specs.declared.question.Question.{Question}
-use Rattle.refusals.specs.Numbers.{number_of}
 use Rattle.refusals.specs.declared.Refusal.{Refusal}
 use Rattle.refusals.specs.declared.Refusal.TheVariants.{BadSetting}
 use Rattle.course.specs.Views.{answers_of}

@@ -1,4 +1,6 @@
 // The course of a book: its bays in the order in which they are passed, and the forecast of visits.
+#![tactic(auto)]
+
 pub mod course;
 mod fill;
 mod forecast;

@@ -1,4 +1,6 @@
 // Reads a book of cents from book.inn and answers command lines from standard input, one line each.
+#![tactic(auto)]
+
 ghost use Rattle.std.specs.Prelude.{◌≡◌, ◌-◌, length, take, if◌then◌else◌, nat_eq, slice_index};
 
 use layout::HouseBook;

@@ -1,5 +1,5 @@
 -- The bay with the fewest neighbours, or with the least choices for each neighbour.
-use Rattle.std.specs.Prelude.{◌≡◌, ℕ, zero, suc, ◌*◌, ◌<◌, Bool, true, false, cond, not, ◌&&◌, ◌||◌, ◌⊎◌, ℤ, pos, ◌==◌, count_ones, int_le, nat_lt, slice_index}
+use Rattle.std.specs.Prelude.{◌≡◌, ℕ, zero, suc, ◌*◌, ◌<◌, Bool, true, false, cond, not, ◌&&◌, ◌||◌, ◌⊎◌, pos, ◌==◌, count_ones, int_le, nat_lt, slice_index}
 use Rattle.model.specs.Sets.{has}
 use Rattle.pickers.specs.Orders.{every}
 use Rattle.pickers.specs.declared.question.Question.{Question}

@@ -1,7 +1,7 @@
 -- The least bay of a set, found one by one.
 use Rattle.std.specs.Prelude.{◌≡◌, ℕ, zero, suc, ◌+◌, ◌*◌, ◌^◌, ◌<◌, ◌≤◌, Bool, true, false, cond, not, ◌&&◌, ◌||◌, ◌⊎◌, ℤ, pos, negsuc, ◌==◌, ◌≢◌, int_le, nat_lt}
 use Rattle.std.proofs.Math.Path.{refl, sym, ap}
-use Rattle.std.proofs.Common.{ap₂, subst, ◌∙◌, inl, inr, ⊎_elim, mul_comm, mul_assoc, add-mul, arith}
+use Rattle.std.proofs.Common.{subst, ◌∙◌, inl, inr, ⊎_elim, mul_comm, mul_assoc, add-mul, arith}
 use Rattle.std.specs.Int.Count.{count_trailing_zeros}
 use Rattle.std.proofs.lemmas.Nat.{mul-le}
 use Rattle.std.proofs.lemmas.Bool.{lt-leb, leb-false, cases_lt, cases_Bool, and_parts, and_from, and_left, and_right, or_from, or_left, or_right, or_cases, or_parts, and_cases, both_ways, eqb-true, eqb-false, eq-eqb, ne_eqb, ltb-true, ltb-false, lt-ltb, le-ltb}

@@ -1,4 +1,6 @@
 // The picker by fewest neighbours.
+#![tactic(auto)]
+
 ghost use Rattle.std.specs.Prelude.{◌≡◌, ◌^◌, ◌<◌, ◌≤◌, pos, int_le};
 ghost use Rattle.fewest.specs.Leasts.{number, below_by, better, least_by, fewest, FewestPicked};
 ghost use Rattle.fewest.specs.Minima.{fewest_remains};

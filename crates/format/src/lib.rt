@@ -1,4 +1,6 @@
 // The house layout of a book as bytes: what is accepted, and what is refused and why.
+#![tactic(auto)]
+
 ghost use Rattle.format.specs.House.{Accepts, Refuses};
 
 // The theorem on what is accepted stands.

@@ -1,3 +1,5 @@
+#![tactic(auto)]
+
 // Tests over the small inn.
 #[cfg(test)]
 mod inn;

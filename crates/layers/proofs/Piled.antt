@@ -1,15 +1,14 @@
 -- What layers do to plans and neighbours.
-use Rattle.std.proofs.Common.{◌≡◌, ℕ, zero, suc, ◌+◌, ◌<◌, ◌≤◌, Bool, true, false, cond, ◌&&◌, ◌||◌, eqb, ltb, List, [], ◌∷◌, get_or, Some, None, Option, sym, refl, ap, ◌∙◌, ap₂, ⊎_elim, arith}
+use Rattle.std.proofs.Common.{◌≡◌, ℕ, zero, suc, ◌+◌, ◌<◌, ◌≤◌, Bool, true, false, cond, ◌&&◌, ◌||◌, eqb, ltb, List, get_or, Some, None, Option, sym, refl, ap, ◌∙◌, ap₂, ⊎_elim, arith}
 use Rattle.std.specs.List.{range_with_len}
 use Rattle.std.proofs.lemmas.Bool.{cases_lt, eqb-true, eq-eqb, ne_eqb, lt-ltb, le-ltb, ltb-true, both_ways}
 use Rattle.model.specs.Books.{Meaning, begins, planned}
-use Rattle.model.specs.Course.{linked}
 use Rattle.model.specs.Lists.{any}
 use Rattle.model.specs.Plans.{sum_below, owns, charges, plan_price}
 use Rattle.model.specs.Prices.{Ops, PriceLaws}
 use Rattle.model.specs.Sets.{has}
 use Rattle.layers.specs.Layers.{quiet, is_off, suspended, under_pin, pinned}
-use Rattle.layers.specs.Piles.{KeepsPins, KeepsHours, AllInForce, Silent, LayersSilent, Barred, Bars, LayersBar, Alike, Unheard, SuspensionsSilence}
+use Rattle.layers.specs.Piles.{Silent, Barred, Bars, Alike, Unheard}
 
 -- sums of the same prices
 sum_same : {P : Type 0} (o : Ops P) (f g : ℕ → P) (n : ℕ) → ((i : ℕ) → i < n → f i ≡ g i) → sum_below o f n ≡ sum_below o g n

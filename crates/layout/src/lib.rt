@@ -1,4 +1,6 @@
 // Books that are read from bytes in the house layout, and answered from a copy of those bytes.
+#![tactic(auto)]
+
 mod book;
 mod copy;
 mod kept;

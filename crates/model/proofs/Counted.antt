@@ -1,6 +1,6 @@
 -- A forecast counts the states that its course leads to.
-use Rattle.std.proofs.Common.{◌≡◌, ℕ, zero, suc, ◌+◌, ◌*◌, ◌<◌, ◌≤◌, Bool, true, false, cond, List, [], ◌∷◌, length, sym, refl, ap, ◌∙◌, mul_assoc, mul_comm, one-mul, mul-one, mul-add, le-mul_of_pos_right, arith}
-use Rattle.model.specs.Claims.{states, Forecast, ForecastCounts}
+use Rattle.std.proofs.Common.{◌≡◌, ℕ, suc, ◌+◌, ◌*◌, ◌<◌, ◌≤◌, Bool, true, false, cond, List, [], ◌∷◌, length, sym, refl, ap, ◌∙◌, mul_assoc, mul_comm, one-mul, mul-one, mul-add, le-mul_of_pos_right, arith}
+use Rattle.model.specs.Claims.{states, ForecastCounts}
 use Rattle.model.specs.Course.{Line, forecast}
 use Rattle.model.specs.Lists.{Each}
 

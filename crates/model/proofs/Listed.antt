@@ -1,12 +1,11 @@
 -- A course lists each of its bays once, with that bay's choices.
-use Rattle.std.proofs.Common.{◌≡◌, ℕ, zero, suc, ◌+◌, ◌-◌, ◌<◌, ◌≤◌, Bool, true, false, cond, not, ◌&&◌, ◌||◌, eqb, ltb, List, [], ◌∷◌, map, length, sym, refl, ap, ◌∙◌, subst, ap₂, arith}
+use Rattle.std.proofs.Common.{◌≡◌, ℕ, zero, suc, ◌+◌, ◌-◌, ◌<◌, ◌≤◌, Bool, true, false, cond, not, ◌&&◌, ◌||◌, eqb, List, [], ◌∷◌, map, length, refl, ap, ◌∙◌, arith}
 use Rattle.std.specs.List.{range_with_len}
 use Rattle.std.proofs.lemmas.List.FromFn.{length-range_with_len}
-use Rattle.std.proofs.lemmas.Bool.{eqb-true, eq-eqb, both_ways}
-use Rattle.model.specs.Books.{Meaning}
-use Rattle.model.specs.Claims.{Lists, CourseLists}
+use Rattle.std.proofs.lemmas.Bool.{eqb-true, eq-eqb}
+use Rattle.model.specs.Claims.{CourseLists}
 use Rattle.model.specs.Course.{Passing, sure, decide, Line, drop_bay, connect, course, linked, passing_in, course_in}
-use Rattle.model.specs.Lists.{Each, keep, member, times}
+use Rattle.model.specs.Lists.{Each, member, times}
 use Rattle.model.proofs.Kept.{member_keep, keep_fewer, member_counting}
 
 -- the bay that is decided is left

@@ -1,4 +1,6 @@
 // The theory of the planner: definitions in specs/, and the theorems over them, each named by a contract here.
+#![tactic(auto)]
+
 ghost use Rattle.model.specs.Claims.{CourseLists, ForecastCounts};
 ghost use Rattle.model.specs.SearchClaims.{FloorBounds, FoldSound, SearchCheapest, SearchCounts};
 ghost use Rattle.model.specs.Stands.{VisitServes};

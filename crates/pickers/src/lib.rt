@@ -1,4 +1,6 @@
 // Pickers: which of the remaining bays is passed next.
+#![tactic(auto)]
+
 pub mod order;
 pub mod orders;
 pub mod picker;

@@ -1,4 +1,6 @@
 // The checked walk over the bytes of a book.
+#![tactic(auto)]
+
 mod pieces;
 mod places;
 mod walk;

@@ -1,4 +1,6 @@
 // Why the planner says no. Each word has one number, which stands in specs/Numbers.antt and nowhere else.
+#![tactic(auto)]
+
 ghost use Rattle.std.specs.Prelude.{◌≡◌, Some};
 ghost use Rattle.refusals.specs.Numbers.{number_of, word_of};
 

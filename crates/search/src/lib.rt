@@ -1,4 +1,6 @@
 // The search of a book for its cheapest plan below a ceiling: bays are folded where few neighbours let them, else branched.
+#![tactic(auto)]
+
 pub mod answer;
 mod back;
 mod choices;

@@ -1,12 +1,12 @@
 -- An evening that follows a call sheet: the book that it plans with, and the end of a trial.
-use Rattle.std.proofs.Common.{◌≡◌, ℕ, suc, ◌-◌, ◌<◌, true, List, get_or, sym, refl, ap, ◌∙◌, subst, ap₂, arith}
+use Rattle.std.proofs.Common.{◌≡◌, ℕ, suc, ◌-◌, ◌<◌, true, List, get_or, sym, ap, ◌∙◌, subst, ap₂, arith}
 use mathlib.Core.Path.{fun_ext}
 use Rattle.model.specs.Books.{Meaning}
 use Rattle.model.specs.Prices.{Ops}
 use Rattle.layers.specs.Layers.{pinned_by, suspended_by}
 use Rattle.trials.specs.declared.evening.Evening.{Evening}
 use Rattle.trials.specs.declared.evening.Marks.{Marks}
-use Rattle.trials.specs.Changes.{below_of, marks_of, blank, saved_last, pin_at, off_at, Closed}
+use Rattle.trials.specs.Changes.{marks_of, blank, saved_last, pin_at, off_at, Closed}
 use Rattle.trials.specs.Follows.{Marked, before, Follows, Answered, pile_book}
 use Rattle.trials.specs.Sheet.{Call, Keep, Drop, Sheet, pin_of, off_of, openings, kept, dropped, Ground, sheet_book, Reply, done, newest, reply, heeded}
 use Rattle.trials.proofs.Laws.{kept_pin, kept_off, kept_openings, kept_before, dropped_openings, dropped_before, dropped_is, accepted}

@@ -1,5 +1,5 @@
 -- Laws of the call sheet: what striking an opening leaves.
-use Rattle.std.proofs.Common.{◌≡◌, ℕ, suc, ◌-◌, ◌<◌, Bool, true, false, cond, ◌&&◌, eqb, ltb, [], ◌∷◌, Some, None, Option, sym, refl, ap, ap₂, arith, lt-ltb, eq-eqb, ne_eqb}
+use Rattle.std.proofs.Common.{◌≡◌, ℕ, suc, ◌-◌, ◌<◌, Bool, true, false, cond, eqb, [], ◌∷◌, Some, None, Option, sym, refl, ap, arith, lt-ltb, eq-eqb, ne_eqb}
 use Rattle.refusals.specs.declared.Refusal.TheVariants.{WrongTicket}
 use Rattle.refusals.specs.Numbers.{number_of}
 use Rattle.trials.specs.Sheet.{Sheet, pinned, unpinned, suspended, resumed, opened, pin_of, off_of, openings, kept, dropped, done, returned, newest, closing}

@@ -1,4 +1,6 @@
 // An evening's pins and suspensions, with trials that are kept or dropped by their tickets.
+#![tactic(auto)]
+
 pub mod evening;
 pub mod marks;
 pub mod opened;

@@ -1,4 +1,4 @@
-use Rattle.std.proofs.Common.{◌≡◌, ◌<◌, ◌≤◌, length, get_or, sym, arith, ltb-false, ltb-true}
+use Rattle.std.proofs.Common.{◌≡◌, ◌≤◌, length, get_or, sym, arith, ltb-false, ltb-true}
 use Rattle.std.proofs.lemmas.List.{get_or_past, get_or_default}
 use Rattle.books.proofs.Plans.{begins_next, begins_not}
 use Rattle.books.proofs.plan.is_plan.Goals as goal

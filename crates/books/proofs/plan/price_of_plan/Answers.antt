@@ -1,4 +1,4 @@
-use Rattle.std.proofs.Common.{◌≡◌, ◌≤◌, length, get_or, sym, ap, ◌∙◌, arith}
+use Rattle.std.proofs.Common.{◌≤◌, length, get_or, sym, ap, ◌∙◌, arith}
 use Rattle.books.proofs.Plans.{planned_long, sum_next}
 use Rattle.model.specs.Plans.{owns}
 use Rattle.books.proofs.plan.price_of_plan.Goals as goal

@@ -1,7 +1,6 @@
-use Rattle.std.proofs.Common.{◌≡◌, ◌≤◌, cond, ◌&&◌, List, ◌++◌, map, length, drop, ℤ, pos, negsuc, Some, None, Ok, sym, ap, ◌∙◌, arith, w8, w64, SFits, to_z, of_z, rules}
+use Rattle.std.proofs.Common.{◌≡◌, ◌≤◌, cond, ◌&&◌, ◌++◌, map, length, drop, ℤ, pos, negsuc, Some, None, Ok, ap, ◌∙◌, arith, w8, w64, SFits, to_z, of_z, rules}
 use lib.Signed.{le_z}
 use Rattle.std.proofs.lemmas.Int.{to_z-of_z}
-use Rattle.course.specs.declared.line.Line.{Line}
 use Rattle.course.specs.Replies.{lines_of}
 use Rattle.course.specs.Written.{written}
 use Rattle.course.proofs.Answered.{some_cond, answered, replied, wrote, tells}

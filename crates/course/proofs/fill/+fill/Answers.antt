@@ -1,7 +1,7 @@
-use Rattle.std.proofs.Common.{◌≡◌, ℕ, ◌-◌, ◌<◌, ◌≤◌, get_or, sym, refl, ap, ◌∙◌, subst, arith, length-set, w8, to_z, of_z}
+use Rattle.std.proofs.Common.{◌≡◌, ℕ, ◌-◌, ◌<◌, sym, refl, ap, ◌∙◌, subst, arith, length-set, w8, to_z, of_z}
 use lib.Count.{ones}
 use Rattle.std.proofs.lemmas.Int.{to_z-of_z}
-use Rattle.model.specs.Sets.{has, one, minus}
+use Rattle.model.specs.Sets.{one, minus}
 use Rattle.model.proofs.Bits.{has_below, minus_small}
 use Rattle.course.proofs.Steps.{some_from_ones, one_fewer, listed}
 use Rattle.course.proofs.fill.+fill.Goals as goal

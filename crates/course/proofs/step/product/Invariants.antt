@@ -1,4 +1,4 @@
-use Rattle.std.proofs.Common.{◌≡◌, ℕ, get_or}
+use Rattle.std.proofs.Common.{◌≡◌, get_or}
 use Rattle.std.specs.List.{range_with_len}
 use Rattle.model.specs.Sets.{has}
 use Rattle.model.specs.Lists.{keep, product}

@@ -1,12 +1,10 @@
-use Rattle.std.proofs.Common.{◌≡◌, ℕ, ◌<◌, ◌≤◌, Bool, true, false, ℤ, pos, sym, ap, ◌∙◌, subst, arith, w8, to_z, of_z}
+use Rattle.std.proofs.Common.{◌≡◌, true, false, pos, sym, ap, ◌∙◌, arith, w8, to_z, of_z}
 use lib.Count.{ones}
 use lib.Signed.{le_z}
 use Rattle.std.proofs.lemmas.Int.{to_z-of_z}
 use Rattle.model.specs.Sets.{has}
-use Rattle.pickers.specs.declared.question.Question.{Question}
 use Rattle.pickers.specs.Questions.{asked}
-use Rattle.course.specs.declared.line.Step.{Step}
-use Rattle.course.specs.Masks.{settled, step_at, decided}
+use Rattle.course.specs.Masks.{settled, step_at}
 use Rattle.course.proofs.Steps.{step_yes, step_many, step_large, decided_at}
 use Rattle.course.proofs.step.step.Goals as goal
 use Rattle.course.proofs.step.step.Goals.{else-within-via-then-within+else-cells-unused, else-within-via-else-within}

@@ -1,4 +1,4 @@
-use Rattle.std.proofs.Common.{◌+◌, List, sym, ap, ◌∙◌, ap₂, arith}
+use Rattle.std.proofs.Common.{List, sym, ap, ◌∙◌, ap₂, arith}
 use Rattle.model.specs.Terms.{Term, floor}
 use Rattle.search.proofs.Steps.{terms_end, terms_in, terms_out}
 use Rattle.search.specs.Places.{bays_from, byte_of}

@@ -1,4 +1,4 @@
-use Rattle.std.proofs.Common.{ℕ, ◌+◌, ◌-◌, ◌*◌, ◌≤◌, List, sym, ap, ◌∙◌, subst, arith, rules}
+use Rattle.std.proofs.Common.{ℕ, ◌+◌, ◌*◌, ◌≤◌, List, sym, ap, ◌∙◌, subst, arith, rules}
 use Rattle.model.specs.Lists.{product}
 use Rattle.model.specs.Sets.{has}
 use Rattle.search.proofs.Members.{members_in, members_out, members_end}

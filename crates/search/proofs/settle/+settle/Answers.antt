@@ -1,4 +1,4 @@
-use Rattle.std.proofs.Common.{◌+◌, ◌-◌, ap, ◌∙◌, arith}
+use Rattle.std.proofs.Common.{◌-◌, ap, ◌∙◌, arith}
 use Rattle.model.specs.Terms.{Plan}
 use Rattle.search.proofs.Steps.{bytes_put, least_one, least_at_one, least_best, least_last, least_at_best, least_at_last}
 use Rattle.search.specs.Force.{trial, charge_from}

@@ -1,4 +1,4 @@
-use Rattle.std.proofs.Common.{◌-◌, arith}
+use Rattle.std.proofs.Common.{arith}
 use Rattle.search.proofs.Tails.{tail_set}
 use Rattle.search.proofs.table.add_cell.Goals as goal
 

@@ -1,4 +1,4 @@
-use Rattle.std.proofs.Common.{ℕ, ◌+◌, ◌-◌, ◌<◌, ◌≢◌, List, length, get_or, take, sym, ap, ◌∙◌, subst, le_refl, arith, below_more}
+use Rattle.std.proofs.Common.{ℕ, ◌+◌, ◌<◌, ◌≢◌, List, length, get_or, take, sym, ap, ◌∙◌, subst, le_refl, arith, below_more}
 use Rattle.std.proofs.lemmas.List.{take-set-le, get_or-set_same, get_or-set_other}
 use Rattle.model.specs.Lists.{product}
 use Rattle.model.specs.Sets.{has}

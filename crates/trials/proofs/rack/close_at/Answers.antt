@@ -1,4 +1,4 @@
-use Rattle.std.proofs.Common.{◌<◌, ◌≤◌, length, sym, arith}
+use Rattle.std.proofs.Common.{◌<◌, length, arith}
 use Rattle.trials.proofs.Racked.{no_place, empty_place, presented}
 use Rattle.trials.proofs.rack.close_at.Goals as goal
 

@@ -1,6 +1,6 @@
-use Rattle.std.proofs.Common.{◌≡◌, ℕ, Bool, true, false, ◌&&◌, eqb, List, length, sym, refl, ap, ◌∙◌, arith}
+use Rattle.std.proofs.Common.{eqb, length, sym, refl, ap, ◌∙◌}
 use Rattle.std.proofs.lemmas.Bool.{ne_eqb, eq-eqb, and_left}
-use Rattle.pickers.specs.Orders.{permutes, every}
+use Rattle.pickers.specs.Orders.{every}
 use Rattle.pickers.specs.Gathered.{mask_in}
 use Rattle.model.specs.Lists.{times}
 use Rattle.pickers.specs.Perms.{permutes_is}
