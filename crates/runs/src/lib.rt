@@ -1,3 +1,4 @@
 // Courses and plans on an evening, and whole runs of requests to one.
 pub mod planning;
 pub mod request;
+pub mod run;

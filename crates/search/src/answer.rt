@@ -3,7 +3,7 @@ use refusals::Refusal;
 
 // A cheapest plan with its price, or none below the ceiling, or the limit reached first, each with the visits made; or a
 // refusal.
-#[derive(Drop)]
+#[derive(Clone, Copy, Drop)]
 pub enum Planned<P> {
     Found { price: P, visits: u32 },
     NoPlan { visits: u32 },
