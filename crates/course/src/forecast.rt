@@ -6,7 +6,7 @@ ghost use Rattle.model.specs.Course.{capped};
 use crate::line::Line;
 
 // The step that decides between the two kinds of line. An empty course has one visit.
-#[cycle(branched_folded_forecast)]
+#[cycle(forecasts)]
 pub(crate) fn forecast(course: &[Line]) -> u64
     ensures { result ≡ capped (forecast_of course.now) }
 {
@@ -22,14 +22,14 @@ pub(crate) fn forecast(course: &[Line]) -> u64
     }
 }
 
-#[cycle(branched_folded_forecast)]
+#[cycle(forecasts)]
 fn folded(rest: &[Line]) -> u64
     ensures { result ≡ capped (1 + forecast_of rest.now) }
 {
     forecast(rest).saturating_add(1)
 }
 
-#[cycle(branched_folded_forecast)]
+#[cycle(forecasts)]
 fn branched(choices: u8, rest: &[Line]) -> u64
     ensures { result ≡ capped (1 + choices * forecast_of rest.now) }
 {

@@ -1,6 +1,6 @@
+// Tests over the small inn.
 #![tactic(auto)]
 
-// Tests over the small inn.
 #[cfg(test)]
 mod inn;
 #[cfg(test)]

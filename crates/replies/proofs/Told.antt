@@ -1,5 +1,5 @@
 -- The text of a course that was answered, and of a line.
-use Rattle.std.proofs.Common.{◌≡◌, ℕ, ◌-◌, ◌^◌, ◌<◌, ◌≤◌, Bool, true, false, cond, List, ◌++◌, map, length, get_or, take, drop, replicate, ℤ, Ok, Err, Result, sym, refl, ap, ◌∙◌, ap₂, arith}
+use Rattle.std.proofs.Common.{◌≡◌, ℕ, ◌-◌, ◌^◌, ◌<◌, ◌≤◌, Bool, true, false, cond, List, ◌++◌, map, length, get_or, take, drop, replicate, ℤ, Ok, Err, Result, IfOk, sym, refl, ap, ◌∙◌, ap₂, arith, subst}
 use Rattle.std.specs.List.{range_with_len}
 use Rattle.std.proofs.lemmas.List.FromFn.{fill_by_all}
 use Rattle.std.proofs.lemmas.List.{length-take-le, get_or-take}
@@ -48,6 +48,12 @@ module _ {P : Type 0} (o : Ops P) (m : Meaning P) (laws : BookLaws o m) (bays : 
       ap (λ (xs : List Line). course_text (take (b - 0) (drop 0 xs)) n) wrote
       ∙ ap (λ (xs : List Line). course_text xs n) (front_lines ls (drop m.bays was) b (lines_long o m laws rising rising_remains k cells ∙ sym all))
       ∙ ap (course_told ls) asked
+
+  -- so is a text that was made of the front lines, where they are as many as the bays
+  pub reply_told : {S E : Type 0} (bytes : S → List ℕ) (r : Result S E) (was lines front : List Line) (n : ℕ) → IfOk r (λ s. bytes s ≡ course_text front n) → front ≡ take (m.bays - 0) (drop 0 lines)
+      → length was ≡ 24 → Ok n ≡ reply m (by_order bays) k cells (length was) → lines ≡ after m (by_order bays) k cells was → IfOk r (λ s. bytes s ≡ course_answer m k cells)
+  reply_told bytes r was lines front n text fronts room answers writes =
+      subst (λ (t : List ℕ). IfOk r (λ s. bytes s ≡ t)) (ap (λ (xs : List Line). course_text xs n) fronts ∙ told_course was lines n m.bays room refl answers writes) text
 
 -- the front of plan bytes that are known one by one
 front_bytes : (f : ℕ → ℕ) (bytes : List ℕ) (n : ℕ) → n ≤ length bytes → ((i : ℕ) → get_or bytes i 0 ≡ f i) → take (n - 0) (drop 0 bytes) ≡ map f (range_with_len 0 n)

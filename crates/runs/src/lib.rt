@@ -1,4 +1,6 @@
 // Courses and plans on an evening, and whole runs of requests to one.
+#![tactic(auto)]
+
 pub mod planning;
 pub mod request;
 pub mod run;

@@ -3,6 +3,7 @@ use Rattle.std.proofs.Common.{◌≡◌, ℕ, ◌+◌, ◌-◌, ◌<◌, ◌≤�
 use mathlib.Core.Path.{fun_ext}
 use mathlib.Core.Bool.{false≢true}
 use Rattle.std.proofs.lemmas.Bool.{ne_eqb}
+use Rattle.std.proofs.lemmas.List.{map-append}
 use Rattle.model.proofs.Adjacent.{kept}
 use Rattle.model.proofs.Serves.{stand_append, stand_self, visit_same}
 use Rattle.model.proofs.Standing.{least_same, tabled, not_dropped}
@@ -15,7 +16,7 @@ use Rattle.model.specs.Sets.{has}
 use Rattle.model.specs.Terms.{Plan, put, Term, Fold, least, cost, cost_stable, touching, others, folded, Legal, Completes}
 use Rattle.search.proofs.Deciding.{share_is}
 use Rattle.search.proofs.Folds.{terms_kept, folds_in, folds_kept}
-use Rattle.search.proofs.Kits.{clash, any_keep, both_left, map-append}
+use Rattle.search.proofs.Kits.{clash, any_keep, both_left}
 use Rattle.model.specs.Searched.{within}
 use Rattle.search.proofs.Members.{members_sound, members_complete, keep_members, map_members, keep_map, members_add}
 use Rattle.search.proofs.Readings.{block_read}

@@ -1,5 +1,5 @@
 -- Small steps on tests and lists.
-use Rattle.std.proofs.Common.{◌≡◌, ℕ, Bool, true, false, cond, ◌&&◌, ◌||◌, List, [], ◌∷◌, ◌++◌, map, refl, ap}
+use Rattle.std.proofs.Common.{◌≡◌, Bool, true, false, cond, ◌&&◌, ◌||◌, List, [], ◌∷◌, refl, ap}
 use Rattle.std.proofs.lemmas.Bool.{both_ways}
 use Rattle.model.specs.Lists.{keep, any}
 
@@ -21,7 +21,3 @@ any_keep p q (x ∷ xs) = go (q x) (any_keep p q xs)
     go : (t : Bool) → any p (keep q xs) ≡ any (λ x. q x && p x) xs → any p (cond t (x ∷ keep q xs) (keep q xs)) ≡ ((t && p x) || any (λ x. q x && p x) xs)
     go true e = ap (λ (y : Bool). p x || y) e
     go false e = e
-
-pub map-append : {A : Type 0} (f : ℕ → A) (xs ys : List ℕ) → map f (xs ++ ys) ≡ map f xs ++ map f ys
-map-append f [] ys = refl
-map-append {A = A} f (x ∷ xs) ys = ap (λ (l : List A). f x ∷ l) (map-append f xs ys)

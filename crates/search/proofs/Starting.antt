@@ -5,7 +5,7 @@ use mathlib.Core.Bool.{false≢true}
 use native.Mathlib.Nat.{sub-zero}
 use native.Mathlib.Decide.{dec_lt}
 use Rattle.std.specs.List.{range_with_len}
-use Rattle.std.proofs.lemmas.List.{get_or_past}
+use Rattle.std.proofs.lemmas.List.{get_or_past, map-append}
 use Rattle.std.proofs.lemmas.Bool.{lt-ltb, le-ltb, ltb-true, eq-eqb}
 use Rattle.course.specs.Masks.{bays_of}
 use Rattle.course.proofs.Starts.{bays_full, full_small}
@@ -21,7 +21,6 @@ use Rattle.model.proofs.Bits.{has_one, has_below}
 use Rattle.model.proofs.Kept.{turn, member_counting}
 use Rattle.model.proofs.Serves.{stand_self, visit_same}
 use Rattle.search.proofs.Folds.{folds_none}
-use Rattle.search.proofs.Kits.{map-append}
 use Rattle.search.proofs.Members.{members_same, map_members, bays_same}
 use Rattle.search.proofs.Settled.{set_none}
 use Rattle.search.proofs.Standing.{plain_ok}

@@ -10,7 +10,7 @@ use books::book::Book;
 use prices::price::Price;
 
 // The least price of a term over the choices of the bays left, from a bay on.
-#[cycle(lowest_lowest_over)]
+#[cycle(minima)]
 fn lowest<B: Book>(
     book: &B,
     choices: &[u8; 24],
@@ -51,7 +51,7 @@ fn lowest<B: Book>(
 }
 
 // The same over the first n choices of that bay.
-#[cycle(lowest_lowest_over)]
+#[cycle(minima)]
 fn lowest_over<B: Book>(
     book: &B,
     choices: &[u8; 24],

@@ -45,7 +45,7 @@ impl<P: Price> Search<P> {
     }
 
     // One visit; true where the search has stopped.
-    #[cycle(branch_bay_fold_bay_pass_try_choices_visit)]
+    #[cycle(visits)]
     pub(crate) fn visit<B: Book<Cost = P>, K: Picker>(
         &mut self,
         book: &B,
@@ -87,7 +87,7 @@ impl<P: Price> Search<P> {
     }
 
     // A bay is picked, and folded or branched.
-    #[cycle(branch_bay_fold_bay_pass_try_choices_visit)]
+    #[cycle(visits)]
     fn pass<B: Book<Cost = P>, K: Picker>(
         &mut self,
         book: &B,
@@ -114,7 +114,7 @@ impl<P: Price> Search<P> {
     }
 
     // The bay's terms leave force, and their combination, least over its choices, joins as a table over the neighbours.
-    #[cycle(branch_bay_fold_bay_pass_try_choices_visit)]
+    #[cycle(visits)]
     fn fold_bay<B: Book<Cost = P>, K: Picker>(
         &mut self,
         book: &B,
@@ -170,7 +170,7 @@ impl<P: Price> Search<P> {
     }
 
     // Each choice of the bay is tried in rising order.
-    #[cycle(branch_bay_fold_bay_pass_try_choices_visit)]
+    #[cycle(visits)]
     fn branch_bay<B: Book<Cost = P>, K: Picker>(
         &mut self,
         book: &B,
@@ -205,7 +205,7 @@ impl<P: Price> Search<P> {
     }
 
     // The first n choices of the newest line's bay; true where the search has stopped.
-    #[cycle(branch_bay_fold_bay_pass_try_choices_visit)]
+    #[cycle(visits)]
     fn try_choices<B: Book<Cost = P>, K: Picker>(
         &mut self,
         book: &B,

@@ -1,7 +1,7 @@
-use Rattle.std.proofs.Common.{◌≡◌, ℕ, List, length, ℤ, IfOk, string_bytes, ap, ◌∙◌, subst, w64, to_z, of_z}
+use Rattle.std.proofs.Common.{◌≡◌, length, ℤ, string_bytes, ap, ◌∙◌, w64, to_z, of_z}
 use Rattle.std.proofs.lemmas.Int.{to_z-of_z}
 use Rattle.course.specs.Replies.{reply, after}
-use Rattle.replies.proofs.Told.{by_order, told_course}
+use Rattle.replies.proofs.Told.{by_order, reply_told}
 use Rattle.replies.proofs.reply.course_reply.Goals as goal
 
 pub returns-in-Ok : goal.returns-in-Ok
@@ -11,8 +11,7 @@ returns-in-Ok g c =
     let k_is : to_z w64 (of_z w64 k) ≡ k = to_z-of_z w64 k c.ranges.k in
     let bays = c.rising.result.bays in
     let was = c.blank_lines-lines.result in
-    let e = told_course g.B.Cost.Price.ops m (g.met.B.Book.lawful c.args.book.now) bays c.rising.ensures k c.args.cells was c.course.new.lines c.in-Ok.forecast c.bays.result
-    c.blank_lines-lines.ensures c.bays.ensures
+    reply_told g.B.Cost.Price.ops m (g.met.B.Book.lawful c.args.book.now) bays c.rising.ensures k c.args.cells string_bytes c.course_text.result was c.course.new.lines _ c.in-Ok.forecast
+    c.course_text.ensures (cc) c.blank_lines-lines.ensures
     (c.in-Ok.ensures.answers ∙ ap (λ (z : ℤ). reply m (by_order bays) z c.args.cells (length was)) k_is)
-    (c.in-Ok.ensures.writes ∙ ap (λ (z : ℤ). after m (by_order bays) z c.args.cells was) k_is) in
-    subst (λ (t : List ℕ). IfOk c.course_text.result (λ s. string_bytes s ≡ t)) e c.course_text.ensures
+    (c.in-Ok.ensures.writes ∙ ap (λ (z : ℤ). after m (by_order bays) z c.args.cells was) k_is)

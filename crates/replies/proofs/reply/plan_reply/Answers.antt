@@ -5,7 +5,6 @@ use Rattle.search.specs.Start.{reply, bytes_after}
 use Rattle.replies.proofs.Told.{by_order, told_plan}
 use Rattle.replies.proofs.reply.plan_reply.Goals as goal
 
--- src/reply.rt:76:24
 pub slice_bounds-planned_text-end : goal.slice_bounds-planned_text-end
 slice_bounds-planned_text-end g c =
     let laws = g.met.B.Book.lawful c.args.book.now in

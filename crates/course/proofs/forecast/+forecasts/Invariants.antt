@@ -1,5 +1,5 @@
 use Rattle.std.proofs.Common.{◌+◌, ◌*◌, length}
-use Rattle.course.proofs.forecast.+branched_folded_forecast.Given as goal
+use Rattle.course.proofs.forecast.+forecasts.Given as goal
 
 abbrev pub decreases-branched : goal.decreases-branched
 decreases-branched l = 2 * length l.rest.now + 1

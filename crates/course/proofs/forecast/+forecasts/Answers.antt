@@ -6,7 +6,7 @@ use Rattle.course.specs.Written.{forecast_of}
 use Rattle.model.specs.Course.{capped}
 use Rattle.course.specs.declared.line.Line.{Line}
 use Rattle.course.proofs.Caps.{capped_mul}
-use Rattle.course.proofs.forecast.+branched_folded_forecast.Goals as goal
+use Rattle.course.proofs.forecast.+forecasts.Goals as goal
 
 pub forecast-returns-in-empty : goal.forecast-returns-in-empty
 forecast-returns-in-empty t c = sym (ap (λ (l : List Line). capped (forecast_of l)) (nil_from_length c.args.course.now (omega (arith, ltb-true))))

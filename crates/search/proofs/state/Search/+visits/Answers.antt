@@ -19,7 +19,7 @@ use Rattle.search.proofs.Standing.{rest_list, rest_open, rest_small, rest_less, 
 use Rattle.search.proofs.Folds.{terms_kept, folds_kept}
 use Rattle.search.proofs.Moving.{sofar_same, setup_same, visit_at, each_at, branch_state, fold_state, try_kept, try_newest, try_bay, try_state, try_visited}
 use Rattle.search.proofs.Folding.{fold_core}
-use Rattle.search.proofs.state.Search.+branch_bay_fold_bay_pass_try_choices_visit.Goals as goal
+use Rattle.search.proofs.state.Search.+visits.Goals as goal
 
 pub branch_bay-try_choices-stopped-requires : goal.branch_bay-try_choices-stopped-requires
 branch_bay-try_choices-stopped-requires g t c κs within =

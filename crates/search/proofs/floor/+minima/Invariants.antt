@@ -1,5 +1,5 @@
 use Rattle.std.proofs.Common.{◌+◌, ◌-◌, ◌*◌}
-use Rattle.search.proofs.floor.+lowest_lowest_over.Given as goal
+use Rattle.search.proofs.floor.+minima.Given as goal
 
 abbrev pub decreases-lowest : goal.decreases-lowest
 decreases-lowest g l = 300 * (24 - l.bay) + 299

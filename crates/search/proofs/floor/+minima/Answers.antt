@@ -4,7 +4,7 @@ use Rattle.model.specs.Terms.{Plan, put}
 use Rattle.search.proofs.Steps.{bytes_put, least_one, least_best, least_last, least_price_end, least_price_skip, least_price_pass, least_price_over}
 use Rattle.search.specs.Force.{term, lowest_from}
 use Rattle.search.specs.Places.{byte_of}
-use Rattle.search.proofs.floor.+lowest_lowest_over.Goals as goal
+use Rattle.search.proofs.floor.+minima.Goals as goal
 
 pub lowest-returns-then-bay-ge24 : goal.lowest-returns-then-bay-ge24
 lowest-returns-then-bay-ge24 g t c =

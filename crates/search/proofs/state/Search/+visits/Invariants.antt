@@ -1,6 +1,6 @@
 use Rattle.std.proofs.Common.{◌+◌, ◌*◌, length}
 use Rattle.search.specs.Places.{bays_from}
-use Rattle.search.proofs.state.Search.+branch_bay_fold_bay_pass_try_choices_visit.Given as goal
+use Rattle.search.proofs.state.Search.+visits.Given as goal
 
 abbrev pub decreases-visit : goal.decreases-visit
 decreases-visit g l = 1000 * length (bays_from l.remaining 0) + 2
