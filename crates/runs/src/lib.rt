@@ -3,4 +3,4 @@
 
 pub mod planning;
 pub mod request;
-pub mod run;
+mod run;
