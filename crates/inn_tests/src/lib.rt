@@ -6,4 +6,6 @@ mod inn;
 #[cfg(test)]
 mod piles;
 #[cfg(test)]
+mod plans;
+#[cfg(test)]
 mod reading;

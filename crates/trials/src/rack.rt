@@ -40,17 +40,14 @@ pub enum Outcome {
     },
 }
 
+// The place is empty, so no ticket is lost.
 fn put(slot: &mut Option<Ticket>, ticket: Ticket)
+    requires { slot.old ≡ None }
     ensures { slot.new ≡ Some ticket }
 {
     match slot.replace(ticket) {
         None => {}
-        Some(old) => {
-            let Ticket {
-                number: _,
-                depth: _,
-            } = old;
-        }
+        Some(_) => unreachable!(),
     }
 }
 
@@ -65,6 +62,7 @@ fn marked(answer: Result<(), Refusal>) -> Outcome
 
 // A refused ticket goes back into its place.
 fn closed(slot: &mut Option<Ticket>, answer: Result<(), Returned>) -> Outcome
+    requires { slot.old ≡ None }
     ensures says { said result ≡ Some (of_close answer) }
     ensures place { slot.new ≡ refilled slot.old answer }
 {

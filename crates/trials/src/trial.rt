@@ -102,8 +102,8 @@ impl<B: Book> Evening<B> {
             return Err(ticket.refused());
         }
         ticket.spend();
-        let marks = self.marks();
-        self.close(marks);
+        let stays = self.marks();
+        self.close(stays);
         Ok(())
     }
 

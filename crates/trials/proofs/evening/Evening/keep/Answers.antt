@@ -11,7 +11,7 @@ returns t c =
     let k = c.args.ticket in
     let new = sym c.if-not-is_newest.ensures in
     let some : 0 < e.depth = search rules in
-    let closed = subst (λ (m : Marks). Closed e m c.close.new.self) c.marks-marks.ensures c.close.ensures in
+    let closed = subst (λ (m : Marks). Closed e m c.close.new.self) c.marks-stays.ensures c.close.ensures in
     record {
       sheet = λ g s f. keeps e c.close.new.self k.number k.depth new some closed f;
       answer = accepted e.number e.depth k.number k.depth new;
