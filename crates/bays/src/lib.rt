@@ -1,15 +1,34 @@
-// Sets of bays as numbers of 32 bits, and the neighbour sets of 24 bays. A bay that fits no set is in none.
+// Sets of bays as numbers of 32 bits, and the neighbour sets of 24 bays. A bay that fits no set is in none. A set is a plain
+// number and no type of its own, since neighbour sets are passed and returned by value as twenty-four numbers.
 #![tactic(auto)]
 
-ghost use Rattle.std.specs.Prelude.{◌≡◌, count_ones, slice_index};
+ghost use Rattle.std.specs.Prelude.{◌≡◌, ◌-◌, ◌^◌, ◌≤◌, pos, count_ones, int_le, slice_index};
+ghost use Rattle.bays.specs.Made.{with_one};
 ghost use Rattle.bays.specs.Neighbours.{joined, connected};
 ghost use Rattle.model.specs.Sets.{has as has_of, minus, one};
+
+use std::array;
 
 // Whether the bay is in the set.
 pub fn has(set: u32, bay: u8) -> bool
     ensures { result ≡ has_of set bay }
 {
     bay < 32 && (set >> bay) % 2 == 1
+}
+
+// The set of the first so many bays; of more than 32, the set of all that fit.
+pub fn first(bays: usize) -> u32
+    ensures few { bays ≤ 32 → result ≡ 2 ^ bays - 1 }
+    ensures many { 32 ≤ bays → result ≡ 2 ^ 32 - 1 }
+{
+    if bays < 32 { (1 << bays) - 1 } else { u32::MAX }
+}
+
+// The set with the bay as well.
+pub fn with(set: u32, bay: u8) -> u32
+    ensures { result ≡ with_one set bay }
+{
+    if bay < 32 { set | 1 << bay } else { set }
 }
 
 // The set without the bay.
@@ -30,16 +49,18 @@ pub fn size(set: u32) -> u32
     set.count_ones()
 }
 
+// Whether a set has at most k bays.
+pub fn at_most(set: u32, k: i8) -> bool
+    ensures { result ≡ int_le (pos (count_ones set)) k }
+{
+    i64::from(size(set)) <= i64::from(k)
+}
+
 // The neighbours of a bay; none for a bay beyond the 24.
 pub fn neighbours_of(masks: &[u32; 24], bay: u8) -> u32
     ensures { result ≡ slice_index masks.now bay }
 {
-    let sets = &masks[..];
-    if (bay as usize) < sets.len() {
-        sets[bay as usize]
-    } else {
-        0
-    }
+    masks.get(usize::from(bay)).copied().unwrap_or(0)
 }
 
 // The neighbours of `other`, once those of `bay` are neighbours of one another and `bay` is gone.
@@ -58,9 +79,5 @@ pub fn connect(masks: [u32; 24], bay: u8) -> [u32; 24]
     ensures { result ≡ connected masks bay }
 {
     let near = neighbours_of(&masks, bay);
-    let mut after = masks;
-    for other in 0..24 {
-        after[other as usize] = joined_set(after[other as usize], near, bay, other);
-    }
-    after
+    array::from_fn(|other| joined_set(masks[other], near, bay, other as u8))
 }

@@ -1,13 +1,13 @@
 // The book of a case, and what its layers hold.
-use crate::hex::decoded;
+use crate::bytes::bytes_of;
+use crate::fault::Fault;
 use crate::numbers::numbers;
 use std::alloc::{AllocError, Global};
 
 #[derive(Clone, Copy)]
 pub enum Kind {
-    OfCents,
-    OfWaits,
-    Neither,
+    Cents,
+    Waits,
 }
 
 // What the layers of a pile hold; no last choices where there are no quiet hours.
@@ -25,13 +25,12 @@ pub struct Case {
     pub held: Held,
 }
 
-impl Held {
-    // Nothing is pinned or suspended.
-    fn new(last: Option<[u8; 24]>) -> Held {
-        Held {
-            last,
-            pins: [None; 24],
-            off: [false; 64],
+impl Kind {
+    fn parse(mark: &str) -> Option<Kind> {
+        match mark {
+            "CTS" => Some(Kind::Cents),
+            "MIN" => Some(Kind::Waits),
+            _ => None,
         }
     }
 }
@@ -43,32 +42,16 @@ fn last_choices(heap: Global, text: &str) -> Result<Option<[u8; 24]>, AllocError
 }
 
 impl Case {
-    pub(crate) fn nothing(heap: Global) -> Case {
-        Case {
-            kind: Kind::Neither,
-            bytes: Vec::new(heap),
-            held: Held::new(None),
-        }
-    }
-
-    // The book of a mark from bytes in hex, perhaps under quiet hours.
-    pub(crate) fn new(
-        heap: Global,
-        mark: &str,
-        hex: &str,
-        quiet: &str,
-    ) -> Result<Case, AllocError> {
-        let kind = match mark {
-            "CTS" => Kind::OfCents,
-            "MIN" => Kind::OfWaits,
-            _ => Kind::Neither,
-        };
-        let bytes = decoded(heap, hex)?;
-        let last = last_choices(heap, quiet)?;
+    // The book of a mark from bytes in hex, perhaps under quiet hours. Nothing is pinned or suspended.
+    pub(crate) fn new(heap: Global, mark: &str, hex: &str, quiet: &str) -> Result<Case, Fault> {
         Ok(Case {
-            kind,
-            bytes,
-            held: Held::new(last),
+            kind: Kind::parse(mark).ok_or(Fault::Unread)?,
+            bytes: bytes_of(heap, hex)?,
+            held: Held {
+                last: last_choices(heap, quiet)?,
+                pins: [None; 24],
+                off: [false; 64],
+            },
         })
     }
 }

@@ -9,31 +9,31 @@
 // the next `E` answers `closed`; a line of another form answers `unread`.
 #![tactic(auto)]
 
+mod bytes;
 mod case;
 mod courses;
-mod hex;
+mod fault;
+mod named;
 mod numbers;
 mod pile;
 mod plans;
 
-use case::Case;
-use pile::{answer, book_text};
+use fault::Fault;
+use pile::answer;
 use std::io;
 use std::io::{BufRead, BufReader};
 
 fn main(rt: HostRuntime) -> io::Result<()> {
     let heap = rt.alloc();
-    let mut case = Case::nothing(heap);
+    let mut case = None;
     for line in BufReader::new(heap, rt.stdin())?.lines(heap) {
         let line = line?;
         let fields: Vec<&str> = line.as_str().split(' ').collect(heap)?;
-        let text = if let ["E", mark, _, hex, quiet] = fields.as_slice() {
-            case = Case::new(heap, mark, hex, quiet)?;
-            book_text(heap, &case)?
-        } else {
-            answer(heap, &mut case, fields.as_slice())?
-        };
-        println!(rt; "{text}")?;
+        match answer(heap, &mut case, fields.as_slice()) {
+            Ok(text) => println!(rt; "{text}")?,
+            Err(Fault::Memory(error)) => return Err(error.into()),
+            Err(fault) => println!(rt; "{fault}")?,
+        }
     }
     Ok(())
 }

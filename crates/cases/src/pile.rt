@@ -1,133 +1,102 @@
 // The pile of a case: pins over suspensions over the book, perhaps over its quiet hours.
 use crate::case::{Case, Held, Kind};
-use crate::courses::{Asked, course_by};
-use crate::plans::{Sought, Told, plan_by};
+use crate::courses::{Asked, course_named};
+use crate::fault::Fault;
+use crate::plans::{plan_named, sought};
 use books::book::Book;
 use layers::pins::Pins;
 use layers::quiet::QuietHours;
 use layers::suspensions::Suspensions;
+use layout::{HouseBook, read};
 use prices::cents::Cents;
+use prices::price::Price;
 use prices::stored::Stored;
+use prices::upto::Upto;
 use prices::waits::Waits;
 use refusals::Refusal;
-use replies::text::refusal_text;
-use std::alloc::{AllocError, Global};
+use std::alloc::Global;
+use std::str::FromStr;
 
-// A number; one too large for any book where it is none.
-fn number(text: &str) -> usize {
-    text.parse::<usize>().unwrap_or(usize::MAX)
+type Pile<B> = Pins<Suspensions<B>>;
+
+// The number of a bay, a choice or a rule.
+fn number<N: FromStr>(text: &str) -> Result<N, Refusal>
+where
+    N::Err: Drop,
+{
+    text.parse::<N>().map_err(|_| Refusal::UnknownNumber)
 }
 
-fn told(heap: Global, refusal: Option<Refusal>) -> Result<String, AllocError> {
-    match refusal {
-        Some(refusal) => refusal_text(heap, refusal),
-        None => String::from_str(heap, "done"),
+fn pin<B: Book>(pile: &mut Pile<B>, bay: &str, choice: &str) -> Result<(), Refusal> {
+    let bay = number::<usize>(bay)?;
+    let choice = number::<u8>(choice)?;
+    if choice >= pile.choices(bay) {
+        return Err(Refusal::UnknownNumber);
     }
+    pile.set_pin(bay, Some(choice));
+    Ok(())
 }
 
-// Why a bay cannot take a pin, or lose it.
-fn pin_refused<B: Book>(
-    pile: &Pins<Suspensions<B>>,
-    bay: usize,
-    choice: Option<usize>,
-) -> Option<Refusal> {
-    match choice {
-        Some(choice) => {
-            if choice < usize::from(pile.choices(bay)) {
-                None
-            } else {
-                Some(Refusal::UnknownNumber)
-            }
-        }
-        None => {
-            if bay >= pile.bays() {
-                Some(Refusal::UnknownNumber)
-            } else if pile.pin_of(bay).is_none() {
-                Some(Refusal::NothingToDo)
-            } else {
-                None
-            }
-        }
+fn unpin<B: Book>(pile: &mut Pile<B>, bay: &str) -> Result<(), Refusal> {
+    let bay = number::<usize>(bay)?;
+    if bay >= pile.bays() {
+        return Err(Refusal::UnknownNumber);
     }
+    if pile.pin_of(bay).is_none() {
+        return Err(Refusal::NothingToDo);
+    }
+    pile.set_pin(bay, None);
+    Ok(())
 }
 
-// Why a rule cannot be suspended, or resumed.
-fn suspension_refused<B: Book>(
-    pile: &Pins<Suspensions<B>>,
-    rule: usize,
-    on: bool,
-) -> Option<Refusal> {
+fn set_suspended<B: Book>(pile: &mut Pile<B>, rule: &str, on: bool) -> Result<(), Refusal> {
+    let rule = number::<usize>(rule)?;
     if rule >= pile.rules() {
-        Some(Refusal::UnknownNumber)
-    } else if pile.below.is_suspended(rule) == on {
-        Some(Refusal::NothingToDo)
-    } else {
-        None
+        return Err(Refusal::UnknownNumber);
     }
+    if pile.below.is_suspended(rule) == on {
+        return Err(Refusal::NothingToDo);
+    }
+    pile.below.set_suspended(rule, on);
+    Ok(())
 }
 
-fn set_pin<B: Book>(
+fn asked_of<const TOP: u32, B: Book<Cost = Upto<TOP>>>(
     heap: Global,
-    pile: &mut Pins<Suspensions<B>>,
-    bay: usize,
-    choice: Option<usize>,
-) -> Result<String, AllocError> {
-    let refusal = pin_refused(pile, bay, choice);
-    if refusal.is_none() {
-        let pin = match choice {
-            Some(choice) => u8::try_from(choice).ok(),
-            None => None,
-        };
-        pile.set_pin(bay, pin);
-    }
-    told(heap, refusal)
-}
-
-fn set_suspended<B: Book>(
-    heap: Global,
-    pile: &mut Pins<Suspensions<B>>,
-    rule: &str,
-    on: bool,
-) -> Result<String, AllocError> {
-    let rule = number(rule);
-    let refusal = suspension_refused(pile, rule, on);
-    if refusal.is_none() {
-        pile.below.set_suspended(rule, on);
-    }
-    told(heap, refusal)
-}
-
-fn asked_of<P: Told, B: Book<Cost = P>>(
-    heap: Global,
-    pile: &mut Pins<Suspensions<B>>,
+    pile: &mut Pile<B>,
     fields: &[&str],
-) -> Result<String, AllocError> {
+) -> Result<String, Fault>
+where
+    Upto<TOP>: Price<Offer = u32>,
+{
     match fields {
-        ["P", bay, choice] => set_pin(heap, pile, number(bay), Some(number(choice))),
-        ["U", bay] => set_pin(heap, pile, number(bay), None),
-        ["S", rule] => set_suspended(heap, pile, rule, true),
-        ["R", rule] => set_suspended(heap, pile, rule, false),
-        ["L", picker, k, cells, limit, ceiling, bytes] => match Sought::parse(
-            k, cells, limit, ceiling, bytes,
-        ) {
-            Some(sought) => plan_by(heap, pile, picker, sought),
-            None => String::from_str(heap, "unread"),
-        },
-        ["C", picker, k, cells, lines] => match Asked::parse(k, cells, lines) {
-            Some(asked) => course_by(heap, pile, picker, asked),
-            None => String::from_str(heap, "unread"),
-        },
-        _ => String::from_str(heap, "unread"),
+        ["E", _, _, _, _] => {}
+        ["P", bay, choice] => pin(pile, bay, choice)?,
+        ["U", bay] => unpin(pile, bay)?,
+        ["S", rule] => set_suspended(pile, rule, true)?,
+        ["R", rule] => set_suspended(pile, rule, false)?,
+        ["L", picker, k, cells, limit, ceiling, bytes] => {
+            let sought = sought(k, cells, limit, ceiling)?;
+            return plan_named(heap, pile, picker, sought, bytes.parse::<usize>()?);
+        }
+        ["C", picker, k, cells, lines] => {
+            return course_named(heap, pile, picker, Asked::parse(k, cells, lines)?);
+        }
+        _ => return Err(Fault::Unread),
     }
+    Ok(String::from_str(heap, "done")?)
 }
 
 // Answers over the pile, and keeps what its layers then hold.
-fn over<P: Told, B: Book<Cost = P> + Drop>(
+fn over<const TOP: u32, B: Book<Cost = Upto<TOP>> + Drop>(
     heap: Global,
     book: B,
     held: &mut Held,
     fields: &[&str],
-) -> Result<String, AllocError> {
+) -> Result<String, Fault>
+where
+    Upto<TOP>: Price<Offer = u32>,
+{
     let mut pile = Pins {
         below: Suspensions {
             below: book,
@@ -136,50 +105,55 @@ fn over<P: Told, B: Book<Cost = P> + Drop>(
         pins: held.pins,
     };
     let text = asked_of(heap, &mut pile, fields)?;
-    let pins = pile.pins;
-    let off = pile.below.off;
-    held.pins = pins;
-    held.off = off;
+    *held = Held {
+        pins: pile.pins,
+        off: pile.below.off,
+        ..*held
+    };
     Ok(text)
 }
 
-fn answer_of<P: Stored + Told>(
+// Answers over a book that was read, or tells that it was refused, and why where the line gave it.
+fn answer_of<const TOP: u32>(
     heap: Global,
-    bytes: &[u8],
+    book: Result<HouseBook<Upto<TOP>>, Refusal>,
     held: &mut Held,
     fields: &[&str],
-) -> Result<String, AllocError> {
-    let last = held.last;
-    match layout::read::<P>(bytes) {
-        Ok(book) => match last {
-            Some(last) => over(heap, QuietHours { below: book, last }, held, fields),
-            None => over(heap, book, held, fields),
-        },
-        Err(_) => String::from_str(heap, "closed"),
+) -> Result<String, Fault>
+where
+    Upto<TOP>: Stored<Offer = u32>,
+{
+    let opens = matches!(fields, ["E", _, _, _, _]);
+    let book = book.map_err(|refusal| {
+        if opens {
+            Fault::Refused(refusal)
+        } else {
+            Fault::Closed
+        }
+    })?;
+    match held.last {
+        Some(last) => over(heap, QuietHours { below: book, last }, held, fields),
+        None => over(heap, book, held, fields),
     }
 }
 
-pub(crate) fn answer(heap: Global, case: &mut Case, fields: &[&str]) -> Result<String, AllocError> {
-    match case.kind {
-        Kind::OfCents => answer_of::<Cents>(heap, case.bytes.as_slice(), &mut case.held, fields),
-        Kind::OfWaits => answer_of::<Waits>(heap, case.bytes.as_slice(), &mut case.held, fields),
-        Kind::Neither => String::from_str(heap, "unread"),
+// Answers a line over a case, or over the new one that the line gives.
+pub(crate) fn answer(
+    heap: Global,
+    case: &mut Option<Case>,
+    fields: &[&str],
+) -> Result<String, Fault> {
+    if let ["E", mark, _, hex, quiet] = fields {
+        // Nothing is left of the case before, even where the line is unread.
+        *case = None;
+        *case = Some(Case::new(heap, mark, hex, quiet)?);
     }
-}
-
-fn read_text<P: Stored>(heap: Global, bytes: &[u8]) -> Result<String, AllocError> {
-    match layout::read::<P>(bytes) {
-        Ok(_) => told(heap, None),
-        Err(refusal) => told(heap, Some(refusal)),
-    }
-}
-
-// Whether the bytes are a book of the kind.
-pub(crate) fn book_text(heap: Global, case: &Case) -> Result<String, AllocError> {
+    let Some(case) = case else {
+        return Err(Fault::Unread);
+    };
     let bytes = case.bytes.as_slice();
     match case.kind {
-        Kind::OfCents => read_text::<Cents>(heap, bytes),
-        Kind::OfWaits => read_text::<Waits>(heap, bytes),
-        Kind::Neither => String::from_str(heap, "unread"),
+        Kind::Cents => answer_of(heap, read::<Cents>(bytes), &mut case.held, fields),
+        Kind::Waits => answer_of(heap, read::<Waits>(bytes), &mut case.held, fields),
     }
 }

@@ -1,6 +1,7 @@
 -- A line is read as a command exactly where it is a writing of it.
-use Rattle.std.proofs.Common.{◌≡◌, ℕ, Bool, true, false, cond, eqb, List, [], ◌∷◌, ◌++◌, Some, None, Option, sym, refl, ap, ◌∙◌, subst, arith, eqb-true}
+use Rattle.std.proofs.Common.{◌≡◌, ℕ, Bool, true, false, cond, eqb, List, [], ◌∷◌, ◌++◌, Some, None, Option, sym, refl, ap, ◌∙◌, subst, eqb-true}
 use Rattle.std.specs.Option.{option_map as made}
+use Rattle.std.proofs.lemmas.Option.{none-some}
 use Rattle.commands.specs.declared.command.Command.{Command}
 use Rattle.commands.specs.declared.command.Command.TheVariants.{Pin, Unpin, Suspend, Resume, Course, Plan}
 use Rattle.commands.specs.Numbers.{Got, got, unread}
@@ -13,9 +14,6 @@ record Exact {B : Type 0} (R : List ℕ → Option B) (W : List ℕ → B → Ty
   sound : (bs : List ℕ) (b : B) → R bs ≡ Some b → W bs b
   whole : (bs : List ℕ) (b : B) → W bs b → R bs ≡ Some b
   stops : (bs : List ℕ) (b : B) → W bs b → Stops bs
-
-clash : {B : Type 0} (b : B) → None ≡ Some b → ⊥
-clash b e = let z : ◌≡◌ {A = ℕ} 0 1 = cc in omega arith
 
 -- nothing is left
 abbrev Done : {A : Type 0} → A → List ℕ → A → Type 0
@@ -34,7 +32,7 @@ exact_done {A} a = record { sound = sound; whole = λ bs b w. ap (done a) w.0 �
   where
     sound : (bs : List ℕ) (b : A) → done a bs ≡ Some b → Done a bs b
     sound [] b e = (refl, cc)
-    sound (x ∷ bs) b e = absurd (clash b e)
+    sound (x ∷ bs) b e = absurd (none-some b e)
 
 exact_then : {A B : Type 0} {G : List ℕ → Got A} {V : List ℕ → A → Type 0} {K : A → List ℕ → Option B} {W : A → List ℕ → B → Type 0} → Piece G V → ((a : A) → Exact (K a) (W a)) → Exact (λ bs. then (G bs) K) (Then V W)
 exact_then {A} {B} {G} {V} {K} {W} piece more = record { sound = sound; whole = whole; stops = λ bs b w. subst Stops (sym w.3) refl }
@@ -43,7 +41,7 @@ exact_then {A} {B} {G} {V} {K} {W} piece more = record { sound = sound; whole = 
     sound bs b e = go (G bs) refl e
       where
         go : (g : Got A) → G bs ≡ g → then g K ≡ Some b → Then V W bs b
-        go unread q e = absurd (clash b e)
+        go unread q e = absurd (none-some b e)
         go (got a rest) q e = let w = piece.sound bs a rest q in (a, w.0, rest, w.1, w.2, (more a).sound rest b e)
 
     whole : (bs : List ℕ) (b : B) → Then V W bs b → then (G bs) K ≡ Some b
@@ -58,7 +56,7 @@ exact_made {A} {B} f {R} {W} exact = record {
 }
   where
     go : (bs : List ℕ) (b : B) (r : Option A) → R bs ≡ r → made f r ≡ Some b → Made f W bs b
-    go bs b None q e = absurd (clash b e)
+    go bs b None q e = absurd (none-some b e)
     go bs b (Some a) q e = (a, exact.sound bs a q, cc)
 
 abbrev Last : ℕ → List ℕ → ℕ → Type 0
@@ -134,10 +132,10 @@ letter_writes b bs c =
     (or_writes b 82 bs c (one_writes 82 4294967295 Resume bs c (λ n ds at w. (ds, at, w)))
     (or_writes b 67 bs c (course_writes bs c)
     (or_writes b 76 bs c (plan_writes bs c)
-    (λ e. absurd (clash c e)))))))
+    (λ e. absurd (none-some c e)))))))
 
 pub sound : (line : List ℕ) (c : Command) → command_in line ≡ Some c → Writes line c
-sound [] c e = absurd (clash c e)
+sound [] c e = absurd (none-some c e)
 sound (b ∷ bs) c e = letter_writes b bs c e
 
 pub whole : (line : List ℕ) (c : Command) → Writes line c → command_in line ≡ Some c
@@ -152,4 +150,4 @@ whole line (Plan k cells limit ceiling) (s, f, l, t, e, w₁, w₂, w₃, w₄) 
 
 pub reads : (line : List ℕ) (o : Option Command) → o ≡ command_in line → Reads line o
 reads line (Some c) e = (sound line c (sym e), λ other w. let two : Some c ≡ Some other = e ∙ whole line other w in cc)
-reads line None e = λ c w. clash c (e ∙ whole line c w)
+reads line None e = λ c w. none-some c (e ∙ whole line c w)

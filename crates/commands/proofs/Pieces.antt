@@ -1,6 +1,7 @@
 -- A field is read exactly where it is written: numbers, limits and the minus.
-use Rattle.std.proofs.Common.{◌≡◌, ℕ, suc, ◌+◌, ◌-◌, ◌*◌, ◌^◌, ◌<◌, ◌≤◌, Bool, true, false, cond, ◌&&◌, eqb, leb, List, [], ◌∷◌, ◌++◌, length, drop, ℤ, pos, sym, refl, ap, ◌∙◌, inl, inr, mul_assoc, add-mul, arith, ne_eqb, eqb-true, le-leb, leb-true}
+use Rattle.std.proofs.Common.{◌≡◌, ℕ, suc, ◌+◌, ◌-◌, ◌*◌, ◌^◌, ◌<◌, ◌≤◌, Bool, true, false, cond, eqb, leb, List, [], ◌∷◌, ◌++◌, length, drop, ℤ, pos, sym, refl, ap, ◌∙◌, inl, inr, mul_assoc, add-mul, arith, ne_eqb, eqb-true, le-leb, leb-true}
 use native.Mathlib.Nat.{pow-succ'}
+use Rattle.std.proofs.lemmas.Bool.{and_parts}
 use Rattle.std.specs.Char.{is_ascii_digit}
 use Rattle.commands.specs.Numbers.{Got, got, unread, mapped, with_digit, onwards, numeral, at_most}
 use Rattle.commands.specs.Lines.{field_in, starts_minus, signed_in, below_zero}
@@ -107,17 +108,11 @@ first_no_minus [] n rest w = let none : 0 < 0 = w.some in absurd (omega arith)
 first_no_minus (d ∷ ds) n rest w =
     ne_eqb d 45 (λ e. let no_digit : false ≡ true = sym (ap is_ascii_digit e) ∙ w.all.0 in let z : ◌≡◌ {A = ℕ} 0 1 = cc in omega arith)
 
-both_true : (s t : Bool) → s && t ≡ true → (s ≡ true) × (t ≡ true)
-both_true true true e = (refl, refl)
-both_true true false e = (refl, e)
-both_true false true e = (e, refl)
-both_true false false e = (e, e)
-
 minus_front : (bs : List ℕ) → starts_minus bs ≡ true → bs ≡ 32 ∷ 45 ∷ drop 2 bs
 minus_front [] e = let z : ◌≡◌ {A = ℕ} 0 1 = cc in absurd (omega arith)
 minus_front (a ∷ []) e = let z : ◌≡◌ {A = ℕ} 0 1 = cc in absurd (omega arith)
 minus_front (a ∷ b ∷ bs) e =
-    let p = both_true (eqb a 32) (eqb b 45) e in
+    let p = and_parts (eqb a 32) (eqb b 45) e in
     let a_is : a ≡ 32 = eqb-true a 32 p.0 in
     let b_is : b ≡ 45 = eqb-true b 45 p.1 in
     λ i. a_is i ∷ b_is i ∷ bs

@@ -1,9 +1,9 @@
 // The fields of a line: each is one space and a number.
-ghost use Rattle.std.specs.Prelude.{◌≡◌, MatchOption, ◌==◌};
+ghost use Rattle.std.specs.Prelude.{◌≡◌, MatchOption};
 ghost use Rattle.commands.specs.Numbers.{unread, got};
 ghost use Rattle.commands.specs.Lines.{field_in, signed_in, last_in};
 
-use crate::number::{at_most, negative, number};
+use crate::number::number;
 
 // The most that a field may say where nothing less is asked.
 pub const NUMBER: u32 = u32::MAX;
@@ -14,24 +14,15 @@ pub const CELLS: u32 = 4_096;
 // The highest ceiling, in forbidden cents.
 pub const CEILING: u32 = 1_000_000_000;
 
-fn is_space(byte: u8) -> bool
-    ensures { result ≡ (byte == 32) }
-{
-    byte == b' '
-}
-
 // The field at the front, with a number that is not above the limit, and what follows it.
 pub fn field(bytes: &[u8], most: u32) -> Option<(u32, &[u8])>
     ensures { MatchOption result (field_in most bytes.now ≡ unread) (λ p. field_in most bytes.now ≡ got p.0 p.1.now) }
 {
-    let [first, after @ ..] = bytes else {
+    let [b' ', after @ ..] = bytes else {
         return None;
     };
-    if !is_space(*first) {
-        return None;
-    }
     let (n, rest) = number(after)?;
-    Some((at_most(n, most)?, rest))
+    Some((n.at_most(most)?, rest))
 }
 
 // The field at the front, with a number that may have a minus, and what follows it.
@@ -41,7 +32,7 @@ pub fn signed(bytes: &[u8]) -> Option<(i64, &[u8])>
     match bytes {
         [b' ', b'-', after @ ..] => {
             let (n, rest) = number(after)?;
-            Some((negative(n), rest))
+            Some((n.negative(), rest))
         }
         _ => {
             let (n, rest) = field(bytes, NUMBER)?;
@@ -55,5 +46,5 @@ pub fn last(bytes: &[u8], most: u32) -> Option<u32>
     ensures { result ≡ last_in most bytes.now }
 {
     let (n, rest) = field(bytes, most)?;
-    if rest.is_empty() { Some(n) } else { None }
+    rest.is_empty().then_some(n)
 }

@@ -1,65 +1,67 @@
 // Numbers in decimal digits, leading zeros allowed.
-ghost use Rattle.std.specs.Prelude.{◌≡◌, ◌+◌, ◌-◌, ◌*◌, ◌<◌, ◌≤◌, min, pos, neg_ℤ, IfSome, if◌then◌else◌, Some, None, MatchOption, nat_le};
+ghost use Rattle.std.specs.Prelude.{◌≡◌, ◌+◌, ◌-◌, ◌*◌, ◌≤◌, min, pos, neg_ℤ, if◌then◌else◌, Some, None, MatchOption, nat_le};
 ghost use Rattle.std.specs.Char.{is_ascii_digit};
 ghost use Rattle.commands.specs.Numbers.{unread, got, numeral, held};
+ghost use Rattle.commands.specs.declared.number.TheConstants.{TOO_LARGE};
 
 // The first number that no field takes. A larger one is held as this one.
 const TOO_LARGE: u64 = 4_294_967_296;
 
-// What an ASCII digit stands for.
-fn digit(byte: u8) -> Option<u64>
-    ensures is { result ≡ (if is_ascii_digit byte then Some (byte - 48) else None) }
-    ensures small { IfSome result (λ d. d < 10) }
-{
-    if byte < b'0' || byte > b'9' {
-        return None;
-    }
-    Some(u64::from(byte - b'0'))
+// A number that was read, held at the first that is too large.
+#[derive(Clone, Copy)]
+pub struct Held {
+    number: u64,
+    ghost held: { number ≤ TOO_LARGE },
 }
 
-// The number that one more digit makes, held at the first that is too large.
-fn with_digit(n: u64, digit: u64) -> u64
-    requires n_bound { n ≤ 4294967296 }
-    requires digit_bound { digit < 10 }
-    ensures { result ≡ min (n * 10 + digit) 4294967296 }
+impl Held {
+    // The number that one more digit makes.
+    fn with_digit(self, digit: u32) -> Held
+        ensures { result.number ≡ min (self.number * 10 + digit) TOO_LARGE }
+    {
+        Held {
+            number: (self.number * 10 + u64::from(digit)).min(TOO_LARGE),
+        }
+    }
+
+    // The number, where it is not above the limit.
+    pub fn at_most(self, most: u32) -> Option<u32>
+        ensures { result ≡ (if nat_le self.number most then Some self.number else None) }
+    {
+        u32::try_from(self.number).ok().filter(|n| *n <= most)
+    }
+
+    // The number after a minus.
+    pub fn negative(self) -> i64
+        ensures { result ≡ neg_ℤ (pos self.number) }
+    {
+        // The number is known to fit; `i64` has no `From<u64>`.
+        -(self.number as i64)
+    }
+}
+
+// What an ASCII digit stands for.
+fn digit(byte: u8) -> Option<u32>
+    ensures { result ≡ (if is_ascii_digit byte then Some (byte - 48) else None) }
 {
-    (n * 10 + digit).min(TOO_LARGE)
+    char::from(byte).to_digit(10)
 }
 
 // The number at the front, and what follows it.
-pub fn number(bytes: &[u8]) -> Option<(u64, &[u8])>
-    ensures is { MatchOption result (numeral bytes.now ≡ unread) (λ p. held (numeral bytes.now) ≡ got p.0 p.1.now) }
-    ensures small { IfSome result (λ p. p.0 ≤ 4294967296) }
+pub fn number(bytes: &[u8]) -> Option<(Held, &[u8])>
+    ensures { MatchOption result (numeral bytes.now ≡ unread) (λ p. held (numeral bytes.now) ≡ got p.0.number p.1.now) }
 {
     let [first, after @ ..] = bytes else {
         return None;
     };
-    let mut n = digit(*first)?;
+    let mut n = Held { number: 0 }.with_digit(digit(*first)?);
     let mut rest = after;
     while let [byte, after @ ..] = rest {
         let Some(d) = digit(*byte) else {
             break;
         };
-        n = with_digit(n, d);
+        n = n.with_digit(d);
         rest = after;
     }
     Some((n, rest))
-}
-
-// A number that is not above the limit.
-pub fn at_most(n: u64, most: u32) -> Option<u32>
-    ensures { result ≡ (if nat_le n most then Some n else None) }
-{
-    if n > u64::from(most) {
-        return None;
-    }
-    Some(n as u32)
-}
-
-// A number after its minus.
-pub fn negative(n: u64) -> i64
-    requires { n ≤ 4294967296 }
-    ensures { result ≡ neg_ℤ (pos n) }
-{
-    -(n as i64)
 }

@@ -1,5 +1,5 @@
 -- What an accepted call for a course answers.
-use Rattle.std.proofs.Common.{◌≡◌, ℕ, ◌-◌, ◌^◌, ◌<◌, ◌≤◌, Bool, true, false, cond, not, ◌&&◌, List, ◌++◌, map, length, take, drop, ℤ, pos, negsuc, Some, None, Ok, Err, sym, refl, ap, ◌∙◌, subst, ap₂, arith}
+use Rattle.std.proofs.Common.{◌≡◌, ℕ, ◌^◌, ◌<◌, ◌≤◌, Bool, true, false, cond, not, ◌&&◌, List, ◌++◌, map, length, drop, ℤ, pos, negsuc, Some, None, Ok, Err, sym, refl, ap, ◌∙◌, subst, ap₂, arith}
 use lib.Signed.{le_z}
 use Rattle.std.proofs.lemmas.Bool.{le-ltb}
 use Rattle.model.specs.Books.{Meaning, BookLaws}
@@ -11,7 +11,7 @@ use Rattle.refusals.specs.declared.Refusal.TheVariants.{BadSetting}
 use Rattle.course.specs.declared.line.Line.{Line}
 use Rattle.course.specs.Replies.{lines_of, allowed, reply, after, Tells}
 use Rattle.course.specs.Written.{written, forecast_of}
-use Rattle.course.proofs.Starts.{lines_long, front_lines, forecast_is, told}
+use Rattle.course.proofs.Starts.{forecast_is, told}
 
 pub some_cond : (t : Bool) (k z : ℤ) → Some k ≡ cond t (Some z) None → (t ≡ true) × (k ≡ z)
 some_cond true k z e = (refl, cc)
@@ -23,13 +23,8 @@ module _ {P : Type 0} (o : Ops P) (m : Meaning P) (laws : BookLaws o m) (pick : 
   allows : allowed m k (length was) ≡ true
   allows = ap₂ (λ (x y : Bool). x && not y) small (le-ltb (length was) m.bays room)
 
-  pub answered : (lines : List Line) (n bays : ℕ) → bays ≡ m.bays → lines ≡ map written (lines_of m pick k cells) ++ drop m.bays was → n ≡ capped (forecast_of (take (bays - 0) (drop 0 lines))) → n ≡ capped (forecast (lines_of m pick k cells))
-  answered lines n bays all lines_are n_is =
-      let ls = lines_of m pick k cells in
-      n_is
-      ∙ ap (λ (xs : List Line). capped (forecast_of (take (bays - 0) (drop 0 xs)))) lines_are
-      ∙ ap (λ (xs : List Line). capped (forecast_of xs)) (front_lines (map written ls) (drop m.bays was) bays (lines_long o m laws pick remains k cells ∙ sym all))
-      ∙ ap capped (forecast_is ls)
+  pub answered : (lines : List Line) (n : ℕ) → lines ≡ map written (lines_of m pick k cells) → n ≡ capped (forecast_of lines) → n ≡ capped (forecast (lines_of m pick k cells))
+  answered lines n lines_are n_is = n_is ∙ ap (λ (xs : List Line). capped (forecast_of xs)) lines_are ∙ ap capped (forecast_is (lines_of m pick k cells))
 
   pub replied : Ok (capped (forecast (lines_of m pick k cells))) ≡ reply m pick k cells (length was)
   replied = sym (ap (λ (t : Bool). cond t (Ok (capped (forecast (lines_of m pick k cells)))) (Err BadSetting)) allows)

@@ -1,5 +1,6 @@
 -- The course on sets is the course of the model.
 use Rattle.std.proofs.Common.{◌≡◌, ℕ, zero, suc, ◌-◌, ◌^◌, ◌<◌, Bool, true, false, cond, not, ◌&&◌, ◌||◌, eqb, leb, List, [], ◌∷◌, map, length, get_or, ℤ, pos, sym, refl, ap, ◌∙◌, ap₂, arith}
+use Rattle.std.specs.Prelude.{is_some, unwrap_or}
 use mathlib.Core.Path.{fun_ext}
 use native.Mathlib.Nat.{sub-zero}
 use lib.Bits.{bit_and}
@@ -215,8 +216,8 @@ module _ (S : Passing) (pick : Question → ℕ) (cs : List ℕ) (linked : Linke
 
   onward : ℕ → List ℕ → ℕ → ℕ → Step → List Line
   onward n ms m unused d =
-      record { bay = d.bay; choices = get_or cs d.bay 0; folded = d.folded }
-      ∷ course_of pick cs S.k n (cond d.folded (connected ms d.bay) ms) (minus m (one d.bay)) (unused - d.used)
+      record { bay = d.bay; choices = get_or cs d.bay 0; folded = is_some d.table }
+      ∷ course_of pick cs S.k n (cond (is_some d.table) (connected ms d.bay) ms) (minus m (one d.bay)) (unused - unwrap_or d.table 0)
 
   SameCourse : ℕ → Type 0
   SameCourse n = (m : ℕ) (ms : List ℕ) (adj : ℕ → ℕ → Bool) (unused : ℕ) → m < 2 ^ 24 → ones m ≡ n → Agree m ms adj

@@ -1,7 +1,6 @@
 pub mod Bayed
 pub mod Products
 pub mod Steps
-pub mod Caps
 pub mod Bridge
 pub mod Starts
 pub mod Answered

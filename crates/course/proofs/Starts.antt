@@ -1,12 +1,11 @@
 -- The course of a book from its neighbour sets at the start.
-use Rattle.std.proofs.Common.{◌≡◌, ℕ, zero, suc, ◌+◌, ◌-◌, ◌*◌, ◌^◌, ◌<◌, ◌≤◌, Bool, true, false, cond, ◌&&◌, ◌||◌, ltb, List, [], ◌∷◌, ◌++◌, map, length, get_or, take, drop, set, ℤ, sym, refl, ap, ◌∙◌, subst, ap₂, ⊎_elim, add-one, arith, pow_pos, pow_mono}
+use Rattle.std.proofs.Common.{◌≡◌, ℕ, zero, suc, ◌+◌, ◌-◌, ◌*◌, ◌^◌, ◌<◌, ◌≤◌, Bool, true, false, cond, ◌&&◌, ◌||◌, ltb, List, [], ◌∷◌, ◌++◌, map, length, get_or, take, drop, ℤ, sym, refl, ap, ◌∙◌, subst, ap₂, ⊎_elim, arith, pow_pos, pow_mono}
 use native.Mathlib.Nat.{sub-zero}
 use lib.Bits.{bit_or}
 use lib.Count.{ones}
 use Rattle.std.specs.List.{range_with_len}
 use Rattle.std.proofs.lemmas.List.FromFn.{get_or-map-range_with_len, length-map-range_with_len, length-range_with_len}
 use Rattle.std.proofs.lemmas.List.{get_or_past, take_at}
-use Rattle.std.proofs.lemmas.List.Edits.{sets, sets-eq}
 use Rattle.std.proofs.lemmas.Bool.{cases_lt, eq-eqb, lt-ltb, le-ltb, ltb-true}
 use Rattle.model.specs.Books.{Meaning, BookLaws}
 use Rattle.model.specs.Claims.{Lists, states}
@@ -21,7 +20,7 @@ use Rattle.model.proofs.Listed.{course_lists}
 use Rattle.pickers.specs.declared.question.Question.{Question}
 use Rattle.course.specs.declared.line.Line.{Line}
 use Rattle.course.specs.Links.{Linked, Agree}
-use Rattle.course.specs.Masks.{bays_of, touched, sets_of, tries_of, course_of, put}
+use Rattle.course.specs.Masks.{bays_of, touched, sets_of, tries_of, course_of}
 use Rattle.course.specs.Replies.{lines_of, Tells}
 use Rattle.course.specs.Views.{answers_of}
 use Rattle.course.specs.Written.{written, unwritten, forecast_of}
@@ -91,13 +90,6 @@ lines_count : (pick : Question → ℕ) (cs : List ℕ) (k : ℤ) (n : ℕ) (ms 
 lines_count pick cs k zero ms m unused = refl
 lines_count pick cs k (suc n) ms m unused = ap suc (lines_count pick cs k n _ _ _)
 
-put_sets : (ls xs : List Line) (i : ℕ) → put xs i ls ≡ sets xs i ls
-put_sets [] xs i = refl
-put_sets (l ∷ ls) xs i = put_sets ls (set xs i l) (i + 1) ∙ ap (λ (k : ℕ). sets (set xs i l) k ls) (add-one i)
-
-pub put_is : (ls xs : List Line) (n : ℕ) → length ls ≡ n → n ≤ length xs → put xs 0 ls ≡ ls ++ drop n xs
-put_is ls xs n e h = put_sets ls xs 0 ∙ sets-eq ls xs 0 (omega arith) ∙ ap (λ (k : ℕ). ls ++ drop k xs) (omega arith)
-
 pub forecast_is : (ls : List Passed) → forecast_of (map written ls) ≡ forecast ls
 forecast_is [] = refl
 forecast_is (l ∷ ls) = ap (λ (n : ℕ). cond l.fold (1 + n) (1 + l.tries * n)) (forecast_is ls)
@@ -117,7 +109,7 @@ module _ {P : Type 0} (o : Ops P) (m : Meaning P) (laws : BookLaws o m) (pick : 
           (λ g. get_or_past (tries_of m.choices) i 0 (omega (arith, length-map-range_with_len m.choices 0 24)) ∙ sym (laws.no_bay i (omega (arith, laws.few_bays))))
           (cases_lt i 24)
 
-  lines_are : (k : ℤ) (cells : ℕ) → map written (lines_of m pick k cells) ≡ course_of pick (tries_of m.choices) k m.bays (sets_of m.scope m.rules) (2 ^ m.bays - 1) cells
+  pub lines_are : (k : ℤ) (cells : ℕ) → map written (lines_of m pick k cells) ≡ course_of pick (tries_of m.choices) k m.bays (sets_of m.scope m.rules) (2 ^ m.bays - 1) cells
   unfolding course_in
   lines_are k cells =
       let few = laws.few_bays in
@@ -126,10 +118,6 @@ module _ {P : Type 0} (o : Ops P) (m : Meaning P) (laws : BookLaws o m) (pick : 
 
   pub lines_long : (k : ℤ) (cells : ℕ) → length (map written (lines_of m pick k cells)) ≡ m.bays
   lines_long k cells = ap length (lines_are k cells) ∙ lines_count pick (tries_of m.choices) k m.bays (sets_of m.scope m.rules) (2 ^ m.bays - 1) cells
-
-  pub filled : (k : ℤ) (cells : ℕ) (xs : List Line) → m.bays ≤ length xs
-      → put xs 0 (course_of pick (tries_of m.choices) k m.bays (sets_of m.scope m.rules) (2 ^ m.bays - 1) cells) ≡ map written (lines_of m pick k cells) ++ drop m.bays xs
-  filled k cells xs h = ap (put xs 0) (sym (lines_are k cells)) ∙ put_is (map written (lines_of m pick k cells)) xs m.bays (lines_long k cells) h
 
   -- what a course says in words of its own
   pub told : (k : ℤ) (cells : ℕ) (rest : List Line) → Tells m (map written (lines_of m pick k cells) ++ rest) (capped (forecast (lines_of m pick k cells)))

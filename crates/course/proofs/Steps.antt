@@ -1,8 +1,9 @@
 -- One step of the course on sets.
-use Rattle.std.proofs.Common.{◌≡◌, ℕ, zero, suc, ◌+◌, ◌-◌, ◌^◌, ◌<◌, ◌≤◌, Bool, true, false, cond, ◌&&◌, leb, List, get_or, set, ℤ, pos, sym, ap, ◌∙◌, arith}
+use Rattle.std.proofs.Common.{◌≡◌, ℕ, zero, suc, ◌-◌, ◌^◌, ◌<◌, Bool, true, cond, ◌&&◌, leb, List, ◌∷◌, get_or, ℤ, pos, sym, ap, ap₂, ◌∙◌, ⊎_elim, arith}
+use Rattle.std.specs.Prelude.{Option, Some, None, is_some, unwrap_or, IfSome}
 use lib.Count.{ones}
 use lib.Signed.{le_z}
-use Rattle.std.proofs.lemmas.Bool.{and_from, and_left, and_right, le-leb, lt-leb, eqb-true}
+use Rattle.std.proofs.lemmas.Bool.{and_parts, cases_lt, le-leb, lt-leb, leb-true, eqb-true}
 use Rattle.model.specs.Sets.{bit, has, one, minus}
 use Rattle.bays.specs.Neighbours.{connected}
 use Rattle.model.proofs.Bits.{ones_minus}
@@ -10,25 +11,30 @@ use Rattle.pickers.specs.declared.question.Question.{Question}
 use Rattle.pickers.specs.Questions.{asked}
 use Rattle.course.specs.declared.line.Line.{Line}
 use Rattle.course.specs.declared.line.Step.{Step}
-use Rattle.course.specs.Masks.{capped_cells, product_of, settled, step_at, decided, course_of, put}
+use Rattle.course.specs.Masks.{capped_cells, product_of, settled, step_at, decided, course_of}
 
-pub step_yes : (cs : List ℕ) (k : ℤ) (unused b near cells : ℕ) → unused < 2 ^ 64 → le_z (pos (ones near)) k ≡ true → cells ≡ capped_cells (product_of cs near) → cells ≤ unused → settled b true cells ≡ step_at cs k unused b near
+-- the cells are capped far above any number of unused ones
+fits_same : (p unused cells : ℕ) → unused < 2 ^ 64 → cells ≡ capped_cells p → leb cells unused ≡ leb p unused
+fits_same p unused cells w e =
+    ⊎_elim
+    (λ l. lt-leb cells unused (omega arith) ∙ sym (lt-leb p unused l))
+    (λ g. le-leb cells unused (omega arith) ∙ sym (le-leb p unused g))
+    (cases_lt unused p)
+
+pub stepped : (cs : List ℕ) (k : ℤ) (unused b near cells : ℕ) (f : Bool) (o : Option ℕ) → unused < 2 ^ 64 → cells ≡ capped_cells (product_of cs near)
+    → f ≡ (le_z (pos (ones near)) k && leb cells unused) → is_some o ≡ f → IfSome o (λ n. n ≡ cells) → record { bay = b; table = o } ≡ step_at cs k unused b near
 unfolding step_at
-step_yes cs k unused b near cells w few e fit =
+stepped cs k unused b near cells f None w e f_is o_is is =
     let p = product_of cs near in
-    let same : cells ≡ p = omega arith in
-    let t : (le_z (pos (ones near)) k && leb p unused) ≡ true = and_from (le_z (pos (ones near)) k) (leb p unused) few (le-leb p unused (omega arith)) in
-    ap (λ (n : ℕ). settled b true n) same ∙ sym (ap (λ (f : Bool). settled b f p) t)
-
-pub step_many : (cs : List ℕ) (k : ℤ) (unused b near : ℕ) → le_z (pos (ones near)) k ≡ false → settled b false 0 ≡ step_at cs k unused b near
-unfolding step_at
-step_many cs k unused b near h =
-    sym (ap (λ (f : Bool). settled b f (product_of cs near)) (and_left (le_z (pos (ones near)) k) (leb (product_of cs near) unused) h))
-
-pub step_large : (cs : List ℕ) (k : ℤ) (unused b near cells : ℕ) → cells ≡ capped_cells (product_of cs near) → unused < cells → settled b false 0 ≡ step_at cs k unused b near
-unfolding step_at
-step_large cs k unused b near cells e h =
-    sym (ap (λ (f : Bool). settled b f (product_of cs near)) (and_right (le_z (pos (ones near)) k) (leb (product_of cs near) unused) (lt-leb (product_of cs near) unused (omega arith))))
+    let few = le_z (pos (ones near)) k in
+    sym (ap (λ (t : Bool). settled b t p) (sym (o_is ∙ f_is ∙ ap (λ (t : Bool). few && t) (fits_same p unused cells w e))))
+stepped cs k unused b near cells f (Some n) w e f_is o_is is =
+    let p = product_of cs near in
+    let few = le_z (pos (ones near)) k in
+    let folds : (few && leb p unused) ≡ true = sym (o_is ∙ f_is ∙ ap (λ (t : Bool). few && t) (fits_same p unused cells w e)) in
+    let fit = leb-true p unused (and_parts few (leb p unused) folds).1 in
+    let same : n ≡ p = omega arith in
+    ap (λ (x : ℕ). record { bay = b; table = Some x }) same ∙ sym (ap (λ (t : Bool). settled b t p) folds)
 
 pub decided_at : (pick : Question → ℕ) (cs : List ℕ) (k : ℤ) (ms : List ℕ) (m unused : ℕ) (q : Question) (b near : ℕ) → q ≡ asked m ms cs k → b ≡ pick q → near ≡ get_or q.neighbours b 0 → step_at cs k unused b near ≡ decided pick cs k ms m unused
 unfolding decided
@@ -47,19 +53,21 @@ pub one_fewer : (m b n : ℕ) → has m b ≡ true → ones m ≡ n → ones (mi
 one_fewer m b n h e = omega (arith, ones_minus m b (eqb-true (bit m b) 1 h))
 
 -- the lines, one by one
-pub listed : (pick : Question → ℕ) (cs : List ℕ) (k k' : ℤ) (n j : ℕ) (ms ms' : List ℕ) (m r unused u : ℕ) (d : Step) (lines : List Line) (i : ℕ)
-    → k' ≡ k → n ≡ suc j → d ≡ decided pick cs k' ms m unused → ms' ≡ cond d.folded (connected ms d.bay) ms → r ≡ minus m (one d.bay) → u ≡ unused - d.used
-    → put (set lines i (record { bay = d.bay; choices = get_or cs d.bay 0; folded = d.folded })) (i + 1) (course_of pick cs k' j ms' r u) ≡ put lines i (course_of pick cs k n ms m unused)
-listed pick cs k k' n j ms ms' m r unused u d lines i k_is n_is d_is ms_is r_is u_is =
-    ap (λ (l : List ℕ). put (first d) (i + 1) (course_of pick cs k' j l r u)) ms_is
-    ∙ ap (λ (x : ℕ). put (first d) (i + 1) (course_of pick cs k' j (after d) x u)) r_is
-    ∙ ap (λ (x : ℕ). put (first d) (i + 1) (course_of pick cs k' j (after d) (minus m (one d.bay)) x)) u_is
-    ∙ ap (λ (x : Step). put (first x) (i + 1) (course_of pick cs k' j (after x) (minus m (one x.bay)) (unused - x.used))) d_is
-    ∙ sym (ap (λ (x : ℕ). put lines i (course_of pick cs k' x ms m unused)) n_is)
-    ∙ ap (λ (x : ℤ). put lines i (course_of pick cs x n ms m unused)) k_is
+pub listed : (pick : Question → ℕ) (cs : List ℕ) (k k' : ℤ) (n j : ℕ) (ms ms' : List ℕ) (m r unused u : ℕ) (d : Step) (b : ℕ) (f : Bool) (lines : List Line)
+    → k' ≡ k → n ≡ suc j → d ≡ decided pick cs k' ms m unused → b ≡ d.bay → f ≡ is_some d.table
+    → ms' ≡ cond (is_some d.table) (connected ms d.bay) ms → r ≡ minus m (one d.bay) → u ≡ unused - unwrap_or d.table 0 → lines ≡ course_of pick cs k' j ms' r u
+    → record { bay = d.bay; choices = get_or cs b 0; folded = f } ∷ lines ≡ course_of pick cs k n ms m unused
+listed pick cs k k' n j ms ms' m r unused u d b f lines k_is n_is d_is b_is f_is ms_is r_is u_is lines_are =
+    ap₂ (λ (x : ℕ) (y : Bool). record { bay = d.bay; choices = get_or cs x 0; folded = y } ∷ lines) b_is f_is
+    ∙ ap (λ (ls : List Line). first d ∷ ls) (lines_are
+    ∙ ap (λ (l : List ℕ). course_of pick cs k' j l r u) ms_is
+    ∙ ap₂ (λ (x y : ℕ). course_of pick cs k' j (after d) x y) r_is u_is)
+    ∙ ap (λ (x : Step). first x ∷ course_of pick cs k' j (after x) (minus m (one x.bay)) (unused - unwrap_or x.table 0)) d_is
+    ∙ sym (ap (λ (x : ℕ). course_of pick cs k' x ms m unused) n_is)
+    ∙ ap (λ (x : ℤ). course_of pick cs x n ms m unused) k_is
   where
-    first : Step → List Line
-    first d = set lines i (record { bay = d.bay; choices = get_or cs d.bay 0; folded = d.folded })
+    first : Step → Line
+    first d = record { bay = d.bay; choices = get_or cs d.bay 0; folded = is_some d.table }
 
     after : Step → List ℕ
-    after d = cond d.folded (connected ms d.bay) ms
+    after d = cond (is_some d.table) (connected ms d.bay) ms

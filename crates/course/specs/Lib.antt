@@ -1,3 +1,4 @@
+pub mod Bounds
 pub mod Masks
 pub mod Views
 pub mod Links

@@ -1,6 +1,6 @@
 -- The course worked out on sets of bays as numbers, step by step as the code takes it. Its lines are those of the course
 -- that the model defines.
-use Rattle.std.specs.Prelude.{ℕ, zero, suc, ◌+◌, ◌-◌, ◌*◌, min, Bool, cond, ◌&&◌, List, [], ◌∷◌, map, ℤ, pos, bit_or, count_ones, int_le, nat_le, slice_index, slice_set}
+use Rattle.std.specs.Prelude.{ℕ, zero, suc, ◌-◌, min, Bool, cond, ◌&&◌, List, [], ◌∷◌, map, ℤ, pos, Some, None, if◌then◌else◌, is_some, unwrap_or, bit_or, count_ones, int_le, nat_le, slice_index}
 use Rattle.std.specs.List.{range_with_len}
 use Rattle.bays.specs.Neighbours.{connected}
 use Rattle.model.specs.Lists.{keep, product}
@@ -35,12 +35,9 @@ product_of cs m = product (λ i. slice_index cs i) (bays_of m)
 abbrev pub capped_cells : ℕ → ℕ
 capped_cells n = min n 340282366920938463463374607431768211455
 
-abbrev pub times_of : ℕ → ℕ → ℕ → ℕ → ℕ
-times_of cells m b n = cond (has m b) (capped_cells (cells * n)) cells
-
--- which bay is next, whether it is folded, and how many cells that uses
+-- which bay is next, and if it is folded, how many cells its table has
 abbrev pub settled : ℕ → Bool → ℕ → Step
-settled b f n = record { bay = b; folded = f; used = cond f n 0 }
+settled b f n = record { bay = b; table = if f then Some n else None }
 
 unfoldable pub step_at : List ℕ → ℤ → ℕ → ℕ → ℕ → Step
 step_at cs k unused b near = settled b (int_le (pos (count_ones near)) k && nat_le (product_of cs near) unused) (product_of cs near)
@@ -54,10 +51,5 @@ abbrev pub course_of : (Question → ℕ) → List ℕ → ℤ → ℕ → List 
 course_of pick cs k zero ms m unused = []
 course_of pick cs k (suc n) ms m unused =
     let d = decided pick cs k ms m unused in
-    record { bay = d.bay; choices = slice_index cs d.bay; folded = d.folded }
-    ∷ course_of pick cs k n (cond d.folded (connected ms d.bay) ms) (minus m (one d.bay)) (unused - d.used)
-
--- the lines from i on, in the place of those that stood there
-abbrev pub put : List Line → ℕ → List Line → List Line
-put xs i [] = xs
-put xs i (l ∷ ls) = put (slice_set xs i l) (i + 1) ls
+    record { bay = d.bay; choices = slice_index cs d.bay; folded = is_some d.table }
+    ∷ course_of pick cs k n (cond (is_some d.table) (connected ms d.bay) ms) (minus m (one d.bay)) (unused - unwrap_or d.table 0)

@@ -1,11 +1,12 @@
 -- What a call for a course answers, and what its lines hold after it.
-use Rattle.std.specs.Prelude.{◌≡◌, ℕ, Bool, cond, not, ◌&&◌, List, ◌++◌, map, length, take, drop, ℤ, pos, negsuc, Ok, Err, Result, int_le, nat_lt}
+use Rattle.std.specs.Prelude.{◌≡◌, ℕ, Bool, cond, not, ◌&&◌, List, ◌++◌, map, length, take, drop, ℤ, Ok, Err, Result, nat_lt}
 use Rattle.model.specs.Books.{Meaning}
 use Rattle.model.specs.Claims.{Lists, states}
 use Rattle.model.specs.Course.{course_in, forecast, capped, Line as Passed}
 use Rattle.pickers.specs.declared.question.Question.{Question}
 use Rattle.refusals.specs.declared.Refusal.{Refusal}
 use Rattle.refusals.specs.declared.Refusal.TheVariants.{BadSetting}
+use Rattle.course.specs.Bounds.{small}
 use Rattle.course.specs.Views.{answers_of}
 use Rattle.course.specs.Written.{written, unwritten}
 use Rattle.course.specs.declared.line.Line.{Line}
@@ -16,7 +17,7 @@ lines_of m pick k cells = course_in m (answers_of pick) k cells
 
 -- whether a course may be made: k from -1 to 4, and a line for each bay
 abbrev pub allowed : {P : Type 0} → Meaning P → ℤ → ℕ → Bool
-allowed m k room = (int_le (negsuc 0) k && int_le k (pos 4)) && not (nat_lt room m.bays)
+allowed m k room = small k && not (nat_lt room m.bays)
 
 abbrev pub reply : {P : Type 0} → Meaning P → (Question → ℕ) → ℤ → ℕ → ℕ → Result ℕ Refusal
 reply m pick k cells room = cond (allowed m k room) (Ok (capped (forecast (lines_of m pick k cells)))) (Err BadSetting)

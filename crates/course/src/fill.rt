@@ -1,59 +1,55 @@
 // Writing the lines of a course, one bay after another.
-ghost use Rattle.std.specs.Prelude.{◌≡◌, ◌+◌, ◌^◌, ◌<◌, ◌≤◌, length, if◌then◌else◌, count_ones};
+ghost use Rattle.std.specs.Prelude.{◌≡◌, ◌-◌, ◌^◌, ◌<◌, ◌≤◌, length, if◌then◌else◌, count_ones, is_some, unwrap_or, IfSome};
 ghost use Rattle.bays.specs.Neighbours.{connected};
-ghost use Rattle.course.specs.Masks.{course_of, put};
+ghost use Rattle.course.specs.Masks.{course_of};
+ghost use Rattle.model.specs.Sets.{minus, one};
 
 use crate::line::{Line, Step};
 use crate::step::step;
 use bays::{connect, without};
 use pickers::picker::Picker;
 
-// The neighbour sets after a step: a fold connects its bay's neighbours.
-fn sets_after(masks: [u32; 24], next: Step) -> [u32; 24]
-    ensures { result ≡ (if next.folded then connected masks next.bay else masks) }
-{
-    if next.folded {
-        connect(masks, next.bay)
-    } else {
-        masks
+// What is left once some bays are passed: the neighbour sets, the bays that remain, and the unused cells.
+#[derive(Clone, Copy)]
+pub(crate) struct Left {
+    pub(crate) masks: [u32; 24],
+    pub(crate) remaining: u32,
+    pub(crate) unused: usize,
+}
+
+impl Left {
+    // What is left once the next bay is passed too. A fold connects its bay's neighbours and uses its table's cells.
+    fn after(self, next: Step) -> Left
+        requires { IfSome next.table (λ cells. cells ≤ self.unused) }
+        ensures masks { result.masks ≡ (if is_some next.table then connected self.masks next.bay else self.masks) }
+        ensures remaining { result.remaining ≡ minus self.remaining (one next.bay) }
+        ensures unused { result.unused ≡ self.unused - unwrap_or next.table 0 }
+    {
+        let remaining = without(self.remaining, next.bay);
+        match next.table {
+            Some(cells) => Left {
+                masks: connect(self.masks, next.bay),
+                remaining,
+                unused: self.unused - cells,
+            },
+            None => Left { remaining, ..self },
+        }
     }
 }
 
-// Writes the lines of the bays that remain, in passing order, from `at` on, with neighbour sets of its own.
-pub(crate) fn fill<K: Picker>(
-    picker: &K,
-    choices: &[u8; 24],
-    k: i8,
-    masks: [u32; 24],
-    remaining: u32,
-    unused: usize,
-    left: usize,
-    lines: &mut [Line],
-    at: usize,
-)
-    requires room { at + left ≤ length lines.old }
-    requires few { remaining < 2 ^ 24 }
-    requires count { count_ones remaining ≡ left }
-    ensures { lines.new ≡ put lines.old at (course_of (K.answer picker.now) choices.now k left masks remaining unused) }
+// Writes the lines of the bays that remain, in passing order.
+pub(crate) fn fill<K: Picker>(picker: &K, choices: &[u8; 24], k: i8, left: Left, lines: &mut [Line])
+    requires few { left.remaining < 2 ^ 24 }
+    requires count { count_ones left.remaining ≡ length lines.old }
+    ensures { lines.new ≡ course_of (K.answer picker.now) choices.now k (length lines.old) left.masks left.remaining left.unused }
 {
-    if left == 0 {
-        return;
+    if let Some((line, rest)) = lines.split_first_mut() {
+        let next = step(picker, choices, k, left.masks, left.remaining, left.unused);
+        *line = Line {
+            bay: next.bay,
+            choices: choices[usize::from(next.bay)],
+            folded: next.table.is_some(),
+        };
+        fill(picker, choices, k, left.after(next), rest);
     }
-    let next = step(picker, choices, k, masks, remaining, unused);
-    lines[at] = Line {
-        bay: next.bay,
-        choices: choices[next.bay as usize],
-        folded: next.folded,
-    };
-    fill(
-        picker,
-        choices,
-        k,
-        sets_after(masks, next),
-        without(remaining, next.bay),
-        unused - next.used,
-        left - 1,
-        lines,
-        at + 1,
-    );
 }

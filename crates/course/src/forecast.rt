@@ -34,6 +34,6 @@ fn branched(choices: u8, rest: &[Line]) -> u64
     ensures { result ≡ capped (1 + choices * forecast_of rest.now) }
 {
     forecast(rest)
-        .saturating_mul(choices as u64)
+        .saturating_mul(u64::from(choices))
         .saturating_add(1)
 }

@@ -6,21 +6,14 @@ ghost use Rattle.std.specs.Prelude.{◌≡◌, ◌-◌, length, take, if◌then�
 use layout::HouseBook;
 use prices::cents::Cents;
 use replies::reply::reply;
-use replies::text::refusal_text;
 use std::io::{BufRead, BufReader, ErrorKind};
 use std::{fs, io};
 
 // The bytes of the book; none where there is no such file.
 fn book_bytes(rt: &HostRuntime) -> io::Result<Vec<u8>> {
     match fs::read(rt, "book.inn") {
-        Ok(bytes) => Ok(bytes),
-        Err(e) => {
-            if e.kind() == ErrorKind::NotFound {
-                Ok(Vec::new(rt.alloc()))
-            } else {
-                Err(e)
-            }
-        }
+        Err(e) if e.kind() == ErrorKind::NotFound => Ok(Vec::new(rt.alloc())),
+        read => read,
     }
 }
 
@@ -28,17 +21,10 @@ fn book_bytes(rt: &HostRuntime) -> io::Result<Vec<u8>> {
 fn trimmed(line: &[u8]) -> &[u8]
     ensures { result.now ≡ (if nat_eq (slice_index line.now (length line.now - 1)) 10 then take (length line.now - 1) line.now else line.now) }
 {
-    let Some(last) = line.last() else {
-        return line;
-    };
-    if *last == b'\n' {
-        &line[0..line.len() - 1]
-    } else {
-        line
-    }
+    line.strip_suffix(b"\n").unwrap_or(line)
 }
 
-// Answers each line, to the end of the input.
+// Answers each line, to the end of the input. The turns are counted since nothing says that input ends.
 fn answer_lines(rt: &HostRuntime, book: &HouseBook<Cents>) -> io::Result<()> {
     let mut input = BufReader::new(rt.alloc(), rt.stdin())?;
     let mut line = Vec::new(rt.alloc());
@@ -57,9 +43,6 @@ fn main(rt: HostRuntime) -> io::Result<()> {
     let bytes = book_bytes(&rt)?;
     match layout::read::<Cents>(bytes.as_slice()) {
         Ok(book) => answer_lines(&rt, &book),
-        Err(refusal) => {
-            let text = refusal_text(rt.alloc(), refusal)?;
-            println!(rt; "{text}")
-        }
+        Err(refusal) => println!(rt; "{refusal}"),
     }
 }

@@ -1,5 +1,6 @@
 -- The bay with the fewest neighbours, or with the least choices for each neighbour.
-use Rattle.std.specs.Prelude.{◌≡◌, ℕ, zero, suc, ◌*◌, ◌<◌, Bool, true, false, cond, not, ◌&&◌, ◌||◌, ◌⊎◌, pos, ◌==◌, count_ones, int_le, nat_lt, slice_index}
+use Rattle.std.specs.Prelude.{◌≡◌, ℕ, zero, suc, ◌*◌, ◌<◌, Bool, true, false, cond, not, ◌&&◌, ◌||◌, ◌⊎◌, pos, ◌==◌, count_ones, int_le, nat_lt, slice_index, Option, Some, None, if◌then◌else◌}
+use Rattle.std.specs.Fn.{Shared}
 use Rattle.model.specs.Sets.{has}
 use Rattle.pickers.specs.Orders.{every}
 use Rattle.pickers.specs.declared.question.Question.{Question}
@@ -12,6 +13,10 @@ lowest (suc n) p = cond (p 0) 0 (suc (lowest n (λ i. p (suc i))))
 -- the lowest bay of a set that no bay of the set is below; 24 if the set is empty
 unfoldable pub least_by : (ℕ → ℕ → Bool) → ℕ → ℕ
 least_by below m = lowest 24 (λ b. has m b && every 24 (λ c. not (has m c && below c b)))
+
+-- the same, none if the set is empty
+abbrev pub least_in : (ℕ → ℕ → Bool) → ℕ → Option ℕ
+least_in below m = if nat_lt (least_by below m) 24 then Some (least_by below m) else None
 
 -- how many neighbours a bay has, and how many choices
 abbrev pub number : Question → ℕ → ℕ
@@ -27,9 +32,6 @@ fewer q a b = nat_lt (number q a) (number q b)
 -- a's choices divided by its neighbours are below b's, by the crosswise products; no neighbours count as largest
 abbrev pub lighter : Question → ℕ → ℕ → Bool
 lighter q a b = nat_lt 0 (number q a) && (number q b == 0 || nat_lt (tries q a * number q b) (tries q b * number q a))
-
-abbrev pub below_by : Bool → Question → ℕ → ℕ → Bool
-below_by counts q a b = cond counts (fewer q a b) (lighter q a b)
 
 -- the fewest neighbours if that is at most k, else the least choices divided by neighbours
 abbrev pub fewest : Question → ℕ
@@ -51,10 +53,11 @@ FewestPicked q b =
     (Least (fewer q) q.remaining b × (int_le (pos (number q b)) q.k ≡ true))
     ⊎ (Least (lighter q) q.remaining b × ((c : ℕ) → has q.remaining c ≡ true → int_le (pos (number q c)) q.k ≡ false))
 
--- the better of the best so far and the bay b; 24 stands for none so far
-abbrev pub better : (ℕ → ℕ → Bool) → ℕ → ℕ → ℕ → ℕ
-better below m best b = cond (has m b && (best == 24 || below b best)) b best
+-- a strict comparison that leaves ties
+pub record Ranks (below : ℕ → ℕ → Bool) : Type 0 where
+  pub asym : (a b : ℕ) → below a b ≡ true → below b a ≡ false
+  pub past : (a b c : ℕ) → below a b ≡ true → below c b ≡ false → below a c ≡ true
 
-abbrev pub best_of : (ℕ → ℕ → Bool) → ℕ → ℕ → ℕ
-best_of below m zero = 24
-best_of below m (suc n) = better below m (best_of below m n) n
+-- each call of f answers as a comparison does
+pub record Compares {F : Type 0} (g : Shared F (ℕ × (ℕ × Unit {0})) Bool) (f : F) (below : ℕ → ℕ → Bool) : Type 0 where
+  pub answers : (a b : ℕ) (r : Bool) → g.post f (a, (b, tt)) r → r ≡ below a b

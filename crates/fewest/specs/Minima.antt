@@ -1,8 +1,13 @@
 -- The least bay of a set, found one by one.
-use Rattle.std.specs.Prelude.{◌≡◌, ℕ, zero, suc, ◌+◌, ◌*◌, ◌^◌, ◌<◌, ◌≤◌, Bool, true, false, cond, not, ◌&&◌, ◌||◌, ◌⊎◌, ℤ, pos, negsuc, ◌==◌, ◌≢◌, int_le, nat_lt}
+use Rattle.std.specs.Prelude.{◌≡◌, ℕ, zero, suc, ◌+◌, ◌*◌, ◌^◌, ◌<◌, ◌≤◌, Bool, true, false, cond, not, ◌&&◌, ◌||◌, ◌⊎◌, List, [], ◌∷◌, ◌++◌, filter, Option, Some, None, ℤ, pos, negsuc, ◌==◌, ◌≢◌, int_le, nat_lt}
 use Rattle.std.proofs.Math.Path.{refl, sym, ap}
 use Rattle.std.proofs.Common.{subst, ◌∙◌, inl, inr, ⊎_elim, mul_comm, mul_assoc, add-mul, arith}
 use Rattle.std.specs.Int.Count.{count_trailing_zeros}
+use Rattle.std.specs.List.{range_with_len, reduce}
+use Rattle.std.proofs.lemmas.List.{append-nil}
+use Rattle.std.proofs.lemmas.List.Elements.{filter-append}
+use Rattle.std.proofs.lemmas.List.Sums.{fold-append}
+use Rattle.model.proofs.Kept.{counting_more}
 use Rattle.std.proofs.lemmas.Nat.{mul-le}
 use Rattle.std.proofs.lemmas.Bool.{lt-leb, leb-false, cases_lt, cases_Bool, and_parts, and_from, and_left, and_right, or_from, or_left, or_right, or_cases, or_parts, and_cases, both_ways, eqb-true, eqb-false, eq-eqb, ne_eqb, ltb-true, ltb-false, lt-ltb, le-ltb}
 use Rattle.model.specs.Sets.{has}
@@ -10,12 +15,7 @@ use Rattle.model.proofs.Bits.{some_bay, has_below}
 use Rattle.pickers.specs.Orders.{every}
 use Rattle.pickers.specs.declared.question.Question.{Question}
 use Rattle.pickers.specs.Perms.{every_from, every_at}
-use Rattle.fewest.specs.Leasts.{lowest, least_by, number, tries, fewer, lighter, fewest, better, best_of, below_by, Least, FewestPicked}
-
--- a strict comparison that leaves ties
-pub record Ranks (below : ℕ → ℕ → Bool) : Type 0 where
-  pub asym : (a b : ℕ) → below a b ≡ true → below b a ≡ false
-  pub past : (a b c : ℕ) → below a b ≡ true → below c b ≡ false → below a c ≡ true
+use Rattle.fewest.specs.Leasts.{lowest, least_by, number, tries, fewer, lighter, least_in, fewest, Ranks, Least, FewestPicked}
 
 pub record Best (below : ℕ → ℕ → Bool) (m n b : ℕ) : Type 0 where
   pub inside : has m b ≡ true
@@ -23,11 +23,25 @@ pub record Best (below : ℕ → ℕ → Bool) (m n b : ℕ) : Type 0 where
   pub least : (c : ℕ) → c < n → has m c ≡ true → below c b ≡ false
   pub first : (c : ℕ) → c < b → has m c ≡ true → below b c ≡ true
 
-abbrev NoneOf : ℕ → ℕ → Type 0
+abbrev pub NoneOf : ℕ → ℕ → Type 0
 NoneOf m n = (c : ℕ) → c < n → has m c ≡ false
 
-abbrev Found : (ℕ → ℕ → Bool) → ℕ → ℕ → ℕ → Type 0
-Found below m n b = (NoneOf m n × (b ≡ 24)) ⊎ Best below m n b
+-- what has been found of the bays below n
+abbrev Found : (ℕ → ℕ → Bool) → ℕ → ℕ → Option ℕ → Type 0
+Found below m n None = NoneOf m n
+Found below m n (Some b) = Best below m n b
+
+-- the better of two, of which the first is the lower
+abbrev pub better : (ℕ → ℕ → Bool) → ℕ → ℕ → ℕ
+better below best b = cond (below b best) b best
+
+abbrev added : (ℕ → ℕ → ℕ) → Option ℕ → ℕ → ℕ
+added h None x = x
+added h (Some b) x = h b x
+
+reduce_push : (h : ℕ → ℕ → ℕ) (xs : List ℕ) (x : ℕ) → reduce h (xs ++ x ∷ []) ≡ Some (added h (reduce h xs) x)
+reduce_push h [] x = refl
+reduce_push h (y ∷ ys) x = ap Some (fold-append h y ys (x ∷ []))
 
 lowest_at : (n : ℕ) (p : ℕ → Bool) (b : ℕ) → b < n → p b ≡ true → ((c : ℕ) → c < b → p c ≡ false) → lowest n p ≡ b
 lowest_at zero p b h e no_one = absurd (omega arith)
@@ -47,53 +61,70 @@ module _ (below : ℕ → ℕ → Bool) (ranks : Ranks below) (m : ℕ) where
   up_to : (n : ℕ) (P : ℕ → Type 0) → ((c : ℕ) → c < n → P c) → P n → (c : ℕ) → c < suc n → P c
   up_to n P h here c l = ⊎_elim (λ lt. h c lt) (λ ge. let e : n ≡ c = omega arith in subst P e here) (cases_lt c n)
 
-  step : (n b : ℕ) → n < 24 → Found below m n b → Found below m (suc n) (better below m b n)
-  step n b few found = go (has m n) refl found
+  taken : (n b : ℕ) → has m n ≡ true → Best below m n b → below n b ≡ true → Best below m (suc n) n
+  taken n b h best l = record {
+    inside = h;
+    under = omega arith;
+    least = up_to n (λ c. has m c ≡ true → below c n ≡ false) (λ c lt hc. ranks.asym n c (ranks.past n b c l (best.least c lt hc))) (λ _. same_not n);
+    first = λ c lt hc. ranks.past n b c l (best.least c lt hc);
+  }
+
+  stays : (n b : ℕ) → (has m n ≡ true → below n b ≡ false) → Best below m n b → Best below m (suc n) b
+  stays n b h best = record {
+    inside = best.inside;
+    under = omega (arith, best.under);
+    least = up_to n (λ c. has m c ≡ true → below c b ≡ false) best.least h;
+    first = best.first;
+  }
+
+  fresh : (n : ℕ) → has m n ≡ true → NoneOf m n → Best below m (suc n) n
+  fresh n h no_one = record {
+    inside = h;
+    under = omega arith;
+    least = up_to n (λ c. has m c ≡ true → below c n ≡ false) (λ c lt hc. absurd (both_ways (has m c) (no_one c lt) hc)) (λ _. same_not n);
+    first = λ c lt hc. absurd (both_ways (has m c) (no_one c lt) hc);
+  }
+
+  step : (n : ℕ) (o : Option ℕ) → Found below m n o → Found below m (suc n) (cond (has m n) (Some (added (better below) o n)) o)
+  step n None none = go (has m n) refl
     where
-      taken : has m n ≡ true → Best below m n b → below n b ≡ true → Best below m (suc n) n
-      taken h best l = record {
-        inside = h;
-        under = omega arith;
-        least = up_to n (λ c. has m c ≡ true → below c n ≡ false) (λ c lt hc. ranks.asym n c (ranks.past n b c l (best.least c lt hc))) (λ _. same_not n);
-        first = λ c lt hc. ranks.past n b c l (best.least c lt hc);
-      }
+      go : (t : Bool) → has m n ≡ t → Found below m (suc n) (cond t (Some n) None)
+      go true h = fresh n h none
+      go false h = up_to n (λ c. has m c ≡ false) none h
+  step n (Some b) best = go (has m n) (below n b) refl refl
+    where
+      go : (t l : Bool) → has m n ≡ t → below n b ≡ l → Found below m (suc n) (cond t (Some (cond l n b)) (Some b))
+      go true true h l = taken n b h best l
+      go true false h l = stays n b (λ _. l) best
+      go false l h e = stays n b (λ t. absurd (both_ways (has m n) h t)) best
 
-      stays : (has m n ≡ true → below n b ≡ false) → Best below m n b → Best below m (suc n) b
-      stays h best = record {
-        inside = best.inside;
-        under = omega (arith, best.under);
-        least = up_to n (λ c. has m c ≡ true → below c b ≡ false) best.least h;
-        first = best.first;
-      }
+  -- the bays of the set below n, one by one
+  chosen : ℕ → Option ℕ
+  chosen n = reduce (better below) (filter (has m) (range_with_len 0 n))
 
-      fresh : has m n ≡ true → NoneOf m n → Best below m (suc n) n
-      fresh h no_one = record {
-        inside = h;
-        under = omega arith;
-        least = up_to n (λ c. has m c ≡ true → below c n ≡ false) (λ c lt hc. absurd (both_ways (has m c) (no_one c lt) hc)) (λ _. same_not n);
-        first = λ c lt hc. absurd (both_ways (has m c) (no_one c lt) hc);
-      }
+  chosen_more : (n : ℕ) → chosen (suc n) ≡ cond (has m n) (Some (added (better below) (chosen n) n)) (chosen n)
+  unfolding chosen
+  chosen_more n =
+      ap (λ (xs : List ℕ). reduce (better below) (filter (has m) xs)) (counting_more 0 n ∙ ap (λ (x : ℕ). range_with_len 0 n ++ x ∷ []) (omega arith))
+      ∙ ap (reduce (better below)) (filter-append (has m) (range_with_len 0 n) (n ∷ []))
+      ∙ go (has m n)
+    where
+      go : (t : Bool) → reduce (better below) (filter (has m) (range_with_len 0 n) ++ cond t (n ∷ []) []) ≡ cond t (Some (added (better below) (chosen n) n)) (chosen n)
+      go true = reduce_push (better below) (filter (has m) (range_with_len 0 n)) n
+      go false = ap (reduce (better below)) (append-nil (filter (has m) (range_with_len 0 n)))
 
-      at : (e l : Bool) → (b == 24) ≡ e → below n b ≡ l → has m n ≡ true → Found below m n b → Found below m (suc n) (cond (e || l) n b)
-      at true l eb lb h (inl none) = inr (fresh h none.0)
-      at true l eb lb h (inr best) = let x : b ≡ 24 = eqb-true b 24 eb in absurd (omega (arith, best.under))
-      at false l eb lb h (inl none) = absurd (both_ways (b == 24) eb (eq-eqb b 24 none.1))
-      at false true eb lb h (inr best) = inr (taken h best lb)
-      at false false eb lb h (inr best) = inr (stays (λ _. lb) best)
+  found : (n : ℕ) → Found below m n (chosen n)
+  unfolding chosen
+  found zero = λ c l. absurd (omega arith)
+  found (suc n) = subst (Found below m (suc n)) (sym (chosen_more n)) (step n (chosen n) (found n))
 
-      go : (t : Bool) → has m n ≡ t → Found below m n b → Found below m (suc n) (cond (t && (b == 24 || below n b)) n b)
-      go true h f = at (b == 24) (below n b) refl refl h f
-      go false h (inl none) = inl (up_to n (λ c. has m c ≡ false) none.0 h, none.1)
-      go false h (inr best) = inr (stays (λ t. absurd (both_ways (has m n) h t)) best)
-
-  found : (n : ℕ) → n ≤ 24 → Found below m n (best_of below m n)
-  found zero h = inl ((λ c l. absurd (omega arith)), refl)
-  found (suc n) h = step n (best_of below m n) (omega arith) (found n (omega arith))
-
-  is_least : (b : ℕ) → Found below m 24 b → least_by below m ≡ b
+  pub no_least : NoneOf m 24 → least_by below m ≡ 24
   unfolding least_by
-  is_least b (inl none) = lowest_none 24 (λ b. has m b && every 24 (λ c. not (has m c && below c b))) (λ c l. ap (λ (t : Bool). t && every 24 (λ d. not (has m d && below d c))) (none.0 c l)) ∙ sym none.1
-  is_least b (inr best) =
+  no_least none = lowest_none 24 (λ b. has m b && every 24 (λ c. not (has m c && below c b))) (λ c l. ap (λ (t : Bool). t && every 24 (λ d. not (has m d && below d c))) (none c l))
+
+  is_least : (b : ℕ) → Best below m 24 b → least_by below m ≡ b
+  unfolding least_by
+  is_least b best =
       lowest_at 24 (λ b. has m b && every 24 (λ c. not (has m c && below c b))) b best.under
       (and_from (has m b) (every 24 (λ c. not (has m c && below c b))) best.inside (every_from 24 (λ c. not (has m c && below c b)) (λ c l. unbeaten c (has m c) refl l)))
       (λ c l. out c l (has m c) refl)
@@ -113,15 +144,28 @@ module _ (below : ℕ → ℕ → Bool) (ranks : Ranks below) (m : ℕ) where
           let y : (has m b && below b c) ≡ true = and_from (has m b) (below b c) best.inside (best.first c l h) in
           both_ways false refl (sym (ap not y) ∙ x))
 
-  pub best_is : best_of below m 24 ≡ least_by below m
-  best_is = sym (is_least (best_of below m 24) (found 24 (omega arith)))
+  pub chosen_is : reduce (better below) (filter (has m) (range_with_len 0 24)) ≡ least_in below m
+  unfolding chosen
+  chosen_is = go (chosen 24) (found 24)
+    where
+      go : (o : Option ℕ) → Found below m 24 o → o ≡ least_in below m
+      go None none = sym (ap (λ (x : ℕ). cond (nat_lt x 24) (Some x) None) (no_least none))
+      go (Some b) best = sym (ap (λ (x : ℕ). cond (nat_lt x 24) (Some x) None) (is_least b best) ∙ ap (λ (t : Bool). cond t (Some b) None) (lt-ltb b 24 best.under))
+
+  pub none_in : least_in below m ≡ None → NoneOf m 24
+  unfolding chosen
+  none_in e = go (chosen 24) (found 24) (chosen_is ∙ e)
+    where
+      go : (o : Option ℕ) → Found below m 24 o → o ≡ None → NoneOf m 24
+      go None none e = none
+      go (Some b) best e = cc
 
   pub the_least : 0 < m → m < 2 ^ 24 → Least below m (least_by below m)
-  the_least some small = subst (Least below m) best_is (go (found 24 (omega arith)))
+  the_least some small = go (chosen 24) (found 24)
     where
-      go : Found below m 24 (best_of below m 24) → Least below m (best_of below m 24)
-      go (inl none) = let h = some_bay m some small in absurd (both_ways (has m (count_trailing_zeros 24 m)) (none.0 (count_trailing_zeros 24 m) (has_below 24 m (count_trailing_zeros 24 m) small h)) h)
-      go (inr best) = record { remains = best.inside; least = λ c h. best.least c (has_below 24 m c small h) h; lowest_one = best.first }
+      go : (o : Option ℕ) → Found below m 24 o → Least below m (least_by below m)
+      go None none = let h = some_bay m some small in absurd (both_ways (has m (count_trailing_zeros 24 m)) (none (count_trailing_zeros 24 m) (has_below 24 m (count_trailing_zeros 24 m) small h)) h)
+      go (Some b) best = subst (Least below m) (sym (is_least b best)) (record { remains = best.inside; least = λ c h. best.least c (has_below 24 m c small h) h; lowest_one = best.first })
 
 -- the two comparisons
 pub fewer_ranks : (q : Question) → Ranks (fewer q)
@@ -186,10 +230,6 @@ lighter_ranks q = record {
   past = λ a b c h k. lighter_past (tries q a) (number q a) (tries q b) (number q b) (tries q c) (number q c) h k;
 }
 
-pub by_ranks : (counts : Bool) (q : Question) → Ranks (below_by counts q)
-by_ranks true q = fewer_ranks q
-by_ranks false q = lighter_ranks q
-
 -- more than k stays more than k
 more_than : (a b : ℕ) (k : ℤ) → int_le (pos a) k ≡ false → a ≤ b → int_le (pos b) k ≡ false
 more_than a b (pos n) h l = lt-leb b n (omega (arith, leb-false a n h))
@@ -210,12 +250,3 @@ fewest_picked q some small = go (int_le (pos (number q few)) q.k) refl
 
 pub fewest_remains : (q : Question) → 0 < q.remaining → q.remaining < 2 ^ 24 → has q.remaining (fewest q) ≡ true
 fewest_remains q some small = ⊎_elim (λ p. p.0.remains) (λ p. p.0.remains) (fewest_picked q some small)
-
--- which of the two least bays is picked
-pub picks_few : (q : Question) (b : ℕ) → b ≡ least_by (fewer q) q.remaining → int_le (pos (number q b)) q.k ≡ true → b ≡ fewest q
-picks_few q b e h =
-    e ∙ sym (ap (λ (t : Bool). cond t (least_by (fewer q) q.remaining) (least_by (lighter q) q.remaining)) (sym (ap (λ (x : ℕ). int_le (pos (number q x)) q.k) e) ∙ h))
-
-pub picks_light : (q : Question) (few b : ℕ) → few ≡ least_by (fewer q) q.remaining → int_le (pos (number q few)) q.k ≡ false → b ≡ least_by (lighter q) q.remaining → b ≡ fewest q
-picks_light q few b e h f =
-    f ∙ sym (ap (λ (t : Bool). cond t (least_by (fewer q) q.remaining) (least_by (lighter q) q.remaining)) (sym (ap (λ (x : ℕ). int_le (pos (number q x)) q.k) e) ∙ h))

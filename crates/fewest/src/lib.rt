@@ -1,11 +1,11 @@
 // The picker by fewest neighbours.
 #![tactic(auto)]
 
-ghost use Rattle.std.specs.Prelude.{◌≡◌, ◌^◌, ◌<◌, ◌≤◌, pos, int_le};
-ghost use Rattle.fewest.specs.Leasts.{number, below_by, better, least_by, fewest, FewestPicked};
+ghost use Rattle.std.specs.Prelude.{◌≡◌, ℕ, ◌^◌, ◌<◌, ◌≤◌, Bool};
+ghost use Rattle.fewest.specs.Leasts.{number, fewer as fewer_of, lighter as lighter_of, least_in, fewest, Compares, Ranks, FewestPicked};
 ghost use Rattle.fewest.specs.Minima.{fewest_remains};
 
-use bays::{has, size};
+use bays::{at_most, has, size};
 use pickers::picker::Picker;
 use pickers::question::Question;
 
@@ -21,47 +21,33 @@ fn neighbours(question: &Question, bay: u8) -> u32
     size(question.neighbours(bay))
 }
 
-// Whether bay a comes before bay b: by the number of neighbours, or by the choices for each neighbour, which are compared
-// without dividing.
-fn before(counts: bool, question: &Question, a: u8, b: u8) -> bool
-    ensures { result ≡ below_by counts question.now a b }
+// Whether bay a has fewer neighbours than bay b.
+fn fewer(question: &Question, a: u8, b: u8) -> bool
+    ensures { result ≡ fewer_of question.now a b }
+{
+    neighbours(question, a) < neighbours(question, b)
+}
+
+// Whether bay a has fewer choices for each neighbour than bay b, compared without dividing. A bay with no neighbours is
+// before none.
+fn lighter(question: &Question, a: u8, b: u8) -> bool
+    ensures { result ≡ lighter_of question.now a b }
 {
     let of_a = neighbours(question, a);
     let of_b = neighbours(question, b);
-    if counts {
-        of_a < of_b
-    } else {
-        0 < of_a
-            && (of_b == 0 || question.choices(a) as u32 * of_b < question.choices(b) as u32 * of_a)
-    }
+    0 < of_a
+        && (of_b == 0
+            || u32::from(question.choices(a)) * of_b < u32::from(question.choices(b)) * of_a)
 }
 
-fn one_more(counts: bool, question: &Question, best: u8, bay: u8) -> u8
-    ensures { result ≡ better (below_by counts question.now) question.now.remaining best bay }
+// The lowest of the remaining bays that none is before.
+fn least<F: Fn(u8, u8) -> bool>(question: &Question, before: F) -> Option<u8>
+    requires { F.IsAlwaysCallable before }
+    ensures { (below : ℕ → ℕ → Bool) → Compares F.Fn before below → Ranks below → result ≡ least_in below question.now.remaining }
 {
-    if has(question.remaining(), bay) && (best == 24 || before(counts, question, bay, best)) {
-        bay
-    } else {
-        best
-    }
-}
-
-// The lowest of the remaining bays that none comes before.
-fn least(counts: bool, question: &Question) -> u8
-    ensures { result ≡ least_by (below_by counts question.now) question.now.remaining }
-{
-    let mut best = 24;
-    for bay in 0..24 {
-        best = one_more(counts, question, best, bay);
-    }
-    best
-}
-
-// Whether a bay has at most k neighbours.
-fn within(question: &Question, bay: u8) -> bool
-    ensures { result ≡ int_le (pos (number question.now bay)) question.now.k }
-{
-    neighbours(question, bay) as i64 <= question.k() as i64
+    (0..24)
+        .filter(|&bay| has(question.remaining(), bay))
+        .reduce(|best, bay| if before(bay, best) { bay } else { best })
 }
 
 impl Picker for Fewest {
@@ -69,15 +55,14 @@ impl Picker for Fewest {
 
     ghost remains = { λ p q h k. fewest_remains q h k };
 
+    // 24 where no bay remains.
     fn pick(&self, question: &Question) -> u8
         ensures is { result ≡ fewest question.now }
         ensures picked { 0 < question.now.remaining → question.now.remaining < 2 ^ 24 → FewestPicked question.now result }
     {
-        let few = least(true, question);
-        if within(question, few) {
-            few
-        } else {
-            least(false, question)
+        match least(question, |a, b| fewer(question, a, b)) {
+            Some(bay) if at_most(question.neighbours(bay), question.k()) => bay,
+            _ => least(question, |a, b| lighter(question, a, b)).unwrap_or(24),
         }
     }
 }

@@ -8,17 +8,12 @@ use std::test::Fail;
 
 // Why some bytes are no book of cents; none where they are one.
 fn refusal(bytes: &[u8]) -> Option<Refusal> {
-    match read::<Cents>(bytes) {
-        Ok(_) => None,
-        Err(why) => Some(why),
-    }
+    read::<Cents>(bytes).err()
 }
 
 #[test]
 fn small_inn_is_read(rt: HostRuntime) -> Result<(), Fail> {
-    let Ok(book) = read::<Cents>(&CENTS) else {
-        return Err(Fail::new("the book is refused"));
-    };
+    let book = read::<Cents>(&CENTS)?;
     assert_eq!(rt; book.bays(), 3);
     assert_eq!(rt; book.rules(), 2);
     assert_eq!(rt; book.own(1, 1).number(), 30);

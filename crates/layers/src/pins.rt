@@ -28,8 +28,7 @@ impl<B> Pins<B> {
     pub fn pin_of(&self, bay: usize) -> Option<u8>
         ensures { result ≡ slice_index_or self.now.pins bay None }
     {
-        let pins = &self.pins[..];
-        if bay < pins.len() { pins[bay] } else { None }
+        self.pins.get(bay).copied().flatten()
     }
 
     // Gives a bay this pin, or none; a bay beyond the 24 has none.
@@ -37,12 +36,14 @@ impl<B> Pins<B> {
         ensures below { self.new.below ≡ self.old.below }
         ensures pins { (b : ℕ) → slice_index_or self.new.pins b None ≡ (if nat_eq bay b && nat_lt bay 24 then pin else slice_index_or self.old.pins b None) }
     {
-        if bay < 24 {
+        // Not by `get_mut`: its contract says nothing of what the pins then are.
+        if bay < self.pins.len() {
             self.pins[bay] = pin;
         }
     }
 }
 
+// A layer holds the book below by value and is a book again, so each method is written out, also where it only asks below.
 impl<B: Book> Book for Pins<B> {
     type Cost = B::Cost;
 
@@ -63,12 +64,10 @@ impl<B: Book> Book for Pins<B> {
     }
 
     fn own(&self, bay: usize, choice: u8) -> B::Cost {
-        if let Some(pin) = self.pin_of(bay) {
-            if pin != choice {
-                return B::Cost::forbidden();
-            }
+        match self.pin_of(bay) {
+            Some(pin) if pin != choice => B::Cost::forbidden(),
+            _ => self.below.own(bay, choice),
         }
-        self.below.own(bay, choice)
     }
 
     fn scope(&self, rule: usize) -> u32 {

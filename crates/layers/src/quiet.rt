@@ -12,6 +12,7 @@ pub struct QuietHours<B> {
     pub last: [u8; 24],
 }
 
+// A layer holds the book below by value and is a book again, so each method is written out, also where it only asks below.
 impl<B: Book> Book for QuietHours<B> {
     type Cost = B::Cost;
 
@@ -32,7 +33,7 @@ impl<B: Book> Book for QuietHours<B> {
     }
 
     fn own(&self, bay: usize, choice: u8) -> B::Cost {
-        if bay < 24 && self.last[bay] < choice {
+        if self.last.get(bay).is_some_and(|last| *last < choice) {
             B::Cost::forbidden()
         } else {
             self.below.own(bay, choice)

@@ -2,6 +2,7 @@
 ghost use Rattle.layers.specs.Piles.{LayersSilent, LayersBar, SuspensionsSilence};
 
 // Where no layer speaks, a plan costs what it costs below.
+#[tactic(auto, using(crate::proofs::Piled::layers_silent))]
 pub fn layers_silent_stands<P>() -> u8
     ensures { LayersSilent P }
 {
@@ -9,6 +10,7 @@ pub fn layers_silent_stands<P>() -> u8
 }
 
 // A plan that breaks a pin or a quiet hour is forbidden, whatever lies above.
+#[tactic(auto, using(crate::proofs::Piled::layers_bar))]
 pub fn layers_bar_stands<P>() -> u8
     ensures { LayersBar P }
 {
@@ -16,6 +18,7 @@ pub fn layers_bar_stands<P>() -> u8
 }
 
 // A suspended rule changes no plan's price and makes no neighbours.
+#[tactic(auto, using(crate::proofs::Piled::unheard))]
 pub fn suspensions_silence_stands<P>() -> u8
     ensures { SuspensionsSilence P }
 {

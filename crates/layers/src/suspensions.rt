@@ -29,8 +29,7 @@ impl<B> Suspensions<B> {
     pub fn is_suspended(&self, rule: usize) -> bool
         ensures { result ≡ slice_index_or self.now.off rule false }
     {
-        let off = &self.off[..];
-        rule < off.len() && off[rule]
+        self.off.get(rule).copied().unwrap_or(false)
     }
 
     // Suspends a rule, or puts it in force again; a number beyond the 64 is no rule.
@@ -38,17 +37,12 @@ impl<B> Suspensions<B> {
         ensures below { self.new.below ≡ self.old.below }
         ensures off { (s : ℕ) → slice_index_or self.new.off s false ≡ (if nat_eq rule s && nat_lt rule 64 then on else slice_index_or self.old.off s false) }
     {
-        if rule < 64 {
+        // As in `Pins`: one line over another array is no longer than a call of a function that both share. Not by `get_mut`,
+        // whose contract says nothing of which rules are then off.
+        if rule < self.off.len() {
             self.off[rule] = on;
         }
     }
-}
-
-// The bays of a rule; none where it is off.
-fn scope_unless(off: bool, scope: u32) -> u32
-    ensures { result ≡ (if off then 0 else scope) }
-{
-    if off { 0 } else { scope }
 }
 
 impl<B: Book> Suspensions<B> {
@@ -60,6 +54,7 @@ impl<B: Book> Suspensions<B> {
     }
 }
 
+// A layer holds the book below by value and is a book again, so each method is written out, also where it only asks below.
 impl<B: Book> Book for Suspensions<B> {
     type Cost = B::Cost;
 
@@ -84,7 +79,11 @@ impl<B: Book> Book for Suspensions<B> {
     }
 
     fn scope(&self, rule: usize) -> u32 {
-        scope_unless(self.is_off(rule), self.below.scope(rule))
+        if self.is_off(rule) {
+            0
+        } else {
+            self.below.scope(rule)
+        }
     }
 
     fn price(&self, rule: usize, plan: &[u8]) -> B::Cost {

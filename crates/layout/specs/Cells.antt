@@ -1,26 +1,19 @@
 -- The place of a plan's cell in the table of a rule.
-use Rattle.std.specs.Prelude.{◌≡◌, ℕ, zero, suc, ◌+◌, ◌-◌, ◌*◌, ◌^◌, ◌<◌, ◌≤◌, true, List, [], ◌∷◌, length, get_or, nat_lt, slice_index, slice_index_or, refl}
+use Rattle.std.specs.Prelude.{◌≡◌, ℕ, zero, suc, ◌+◌, ◌-◌, ◌*◌, ◌^◌, ◌<◌, ◌≤◌, Bool, true, false, MatchBool, List, [], ◌∷◌, length, get_or, nat_lt, slice_index, slice_index_or, refl}
+use Rattle.std.specs.List.{zip, AllWithin, HoldsAt}
 use Rattle.std.proofs.Common.{sym, ap, subst, ◌∙◌, ⊎_elim, add-mul, pow-suc, mul_assoc, arith, ltb-true, eq-eqb}
 use Rattle.std.proofs.Math.Nat.{pow-le-pow_right}
 use Rattle.std.proofs.lemmas.Nat.{mul-le}
-use Rattle.std.proofs.lemmas.List.{get_or_past, nil_from_length}
-use Rattle.std.proofs.lemmas.Slice.{first_rest}
+use Rattle.std.proofs.lemmas.List.{get_or_past}
 use Rattle.std.proofs.lemmas.Bool.{cases_lt, both_ways}
 use Rattle.model.specs.Books.{begins}
 use Rattle.model.specs.Sets.{bit, has, one}
 use Rattle.model.proofs.Bits.{bit_one_same}
-use Rattle.books.proofs.Plans.{begins_not}
+use Rattle.books.proofs.Plans.{begins_next, begins_not}
 use Rattle.format.specs.House.{cells_in, Rising}
 use Rattle.layout.specs.Meant.{mask_of, place_of}
 use Rattle.reader.proofs.Fronts.{both}
-use Rattle.layout.specs.Masks.{rest_of, has_left, has_right}
-
-pub place_none : (cs plan scope : List ℕ) (at : ℕ) → length scope ≡ 0 → at ≡ place_of cs plan at scope
-place_none cs plan scope at h = sym (ap (place_of cs plan at) (nil_from_length scope h))
-
-pub place_more : (cs plan scope : List ℕ) (at next r : ℕ) → 0 < length scope → next ≡ at * slice_index cs (slice_index scope 0) + slice_index plan (slice_index scope 0) → r ≡ place_of cs plan next (rest_of scope) → r ≡ place_of cs plan at scope
-place_more cs plan scope at next r h e g =
-    g ∙ ap (λ (n : ℕ). place_of cs plan n (rest_of scope)) e ∙ sym (ap (place_of cs plan at) (first_rest scope 0 h))
+use Rattle.layout.specs.Masks.{has_left, has_right}
 
 pub place_small : (n s : ℕ) → s < 256 ^ (4 - n) → s ≤ 4294967296
 place_small n s h =
@@ -81,3 +74,31 @@ begins_long choices n plan few e =
     absurd (both_ways _ (begins_not choices n (length plan) plan short (omega (arith, few (length plan)))) e))
     (λ long. long)
     (cases_lt (length plan) n)
+
+zip_at : (cs plan : List ℕ) (k : ℕ) → k < length cs → length cs ≤ length plan → slice_index_or (zip cs plan) k (0, 255) ≡ (slice_index cs k, slice_index_or plan k 255)
+zip_at [] plan k h l = absurd (omega arith)
+zip_at (c ∷ cs) [] k h l = absurd (omega arith)
+zip_at (c ∷ cs) (p ∷ plan) zero h l = refl
+zip_at (c ∷ cs) (p ∷ plan) (suc k) h l = zip_at cs plan k (omega arith) (omega arith)
+
+zip_long : (cs plan : List ℕ) → length cs ≤ length plan → length (zip cs plan) ≡ length cs
+zip_long [] plan l = refl
+zip_long (c ∷ cs) [] l = absurd (omega arith)
+zip_long (c ∷ cs) (p ∷ plan) l = ap suc (zip_long cs plan (omega arith))
+
+zip_begins : (cs plan : List ℕ) (n : ℕ) → length cs ≤ length plan → n ≤ length cs → AllWithin (λ p. p.1 < p.0) (zip cs plan) 0 (length (zip cs plan)) → begins (λ i. slice_index cs i) n plan ≡ true
+zip_begins cs plan zero l h all = refl
+zip_begins cs plan (suc n) l h all =
+    let here : slice_index_or plan n 255 < slice_index cs n = subst (λ (p : ℕ × ℕ). p.1 < p.0) (zip_at cs plan n (omega arith) l) (all n (0, 255) (omega arith) (omega (arith, zip_long cs plan l))) in
+    subst (λ (k : ℕ). begins (λ i. slice_index cs i) k plan ≡ true) (let e : n + 1 ≡ suc n = omega arith in e) (begins_next (λ i. slice_index cs i) n plan (zip_begins cs plan n l (omega arith) all) here)
+
+-- bytes that are no shorter begin with a plan where each is a choice below its count
+pub begins_by_zip : (cs plan : List ℕ) (r : Bool) → length cs ≤ length plan → MatchBool r (AllWithin (λ p. p.1 < p.0) (zip cs plan) 0 (length (zip cs plan))) ((k : ℕ) × (k < length (zip cs plan)) × HoldsAt (λ p. p.0 ≤ p.1) (zip cs plan) k) → r ≡ begins (λ i. slice_index cs i) (length cs) plan
+begins_by_zip cs plan true l h = sym (zip_begins cs plan (length cs) l (omega arith) h)
+begins_by_zip cs plan false l h =
+    let in_cs : h.0 < length cs = omega (arith, h.1, zip_long cs plan l) in
+    sym (begins_not (λ i. slice_index cs i) (length cs) h.0 plan in_cs (subst (λ (p : ℕ × ℕ). p.0 ≤ p.1) (zip_at cs plan h.0 in_cs l) (h.2 (0, 255))))
+
+-- bytes that are shorter begin with none
+pub begins_short : (cs plan : List ℕ) → length plan < length cs → slice_index cs (length plan) ≤ 255 → begins (λ i. slice_index cs i) (length cs) plan ≡ false
+begins_short cs plan h few = begins_not (λ i. slice_index cs i) (length cs) (length plan) plan h (omega (arith, few, get_or_past plan (length plan) 255 (omega arith)))

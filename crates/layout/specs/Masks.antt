@@ -1,12 +1,11 @@
 -- Sets of bays: what a scope's set holds.
 use Rattle.std.specs.Prelude.{◌≡◌, ℕ, ◌+◌, ◌-◌, ◌^◌, ◌<◌, true, List, [], ◌∷◌, length, take, drop, slice_index}
-use Rattle.std.proofs.Common.{sym, ap, ◌∙◌, arith, eqb-true, eq-eqb, pow_pos}
+use Rattle.std.proofs.Common.{ap, ◌∙◌, arith, eqb-true, eq-eqb, pow_pos}
 use Rattle.std.specs.Int.Bits.{bit_or}
 use Rattle.std.proofs.lemmas.Nat.{or_lt}
 use Rattle.std.proofs.Math.Pow.{pow-lt}
-use Rattle.std.proofs.lemmas.List.{take_rest, length-drop, get_or-drop, nil_from_length}
-use Rattle.std.proofs.lemmas.Slice.{first_rest}
-use Rattle.model.specs.Sets.{has, one}
+use Rattle.std.proofs.lemmas.List.{take_rest, length-drop, get_or-drop}
+use Rattle.model.specs.Sets.{has}
 use Rattle.model.proofs.Bits.{bit_of_or}
 use Rattle.format.specs.House.{Rising}
 use Rattle.layout.specs.Meant.{mask_of}
@@ -21,12 +20,6 @@ rest_length scope = ap length (take_rest scope 1) ∙ length-drop 1 scope
 -- the bays after the first of a scope are as they were
 pub rest_within : (scope : List ℕ) (n : ℕ) → ((i : ℕ) → i < length scope → slice_index scope i < n) → (i : ℕ) → i < length (rest_of scope) → slice_index (rest_of scope) i < n
 rest_within scope n h i l = rw (take_rest scope 1, get_or-drop 1 scope i 0) (h (1 + i) (omega (arith, rest_length scope)))
-
-pub mask_more : (scope : List ℕ) (rest all : ℕ) → 0 < length scope → rest ≡ mask_of (rest_of scope) → all ≡ bit_or (one (slice_index scope 0)) rest → all ≡ mask_of scope
-mask_more scope rest all h e f = f ∙ ap (bit_or (one (slice_index scope 0))) e ∙ sym (ap mask_of (first_rest scope 0 h))
-
-pub mask_none : (scope : List ℕ) → length scope ≡ 0 → 0 ≡ mask_of scope
-mask_none scope h = sym (ap mask_of (nil_from_length scope h))
 
 -- a set that is joined to another keeps its bays
 pub has_left : (m n i : ℕ) → has m i ≡ true → has (bit_or m n) i ≡ true

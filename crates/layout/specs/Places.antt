@@ -1,22 +1,21 @@
 -- What stands at the places of an index.
 use Rattle.std.specs.Prelude.{◌≡◌, ℕ, zero, suc, ◌+◌, ◌-◌, ◌*◌, ◌<◌, ◌≤◌, true, List, [], ◌∷◌, map, length, get_or, take, drop, Some, None, slice_index, slice_index_or, refl}
 use Rattle.std.proofs.Common.{sym, ap, ◌∙◌, ⊎_elim, add-zero, arith}
-use Rattle.std.proofs.Math.Logic.{∥∥₁_elim, ∥∥₁_map}
+use Rattle.std.proofs.Math.Logic.{∥∥₁_elim}
 use Rattle.std.proofs.Math.Bridge.{le_prop}
 use Rattle.std.specs.List.{slice_get}
 use Rattle.std.proofs.lemmas.List.FromFn.{length-map-range_with_len, get_or-map-range_with_len}
-use Rattle.std.proofs.lemmas.List.{get_or-take, get_or-drop, get_or_past, length-take-le, length-drop, length-map, ext_get_or}
+use Rattle.std.proofs.lemmas.List.{take_rest, drop-drop, get_or-drop, get_or_past, length-take-le, length-drop, length-map, ext_get_or}
 use Rattle.std.proofs.lemmas.Option.{slice_get-get_or, slice_get_past}
 use Rattle.std.proofs.lemmas.Bool.{cases_lt}
 use Rattle.format.specs.Pieces.{number}
 use Rattle.model.specs.Lists.{Each}
 use Rattle.format.specs.House.{cells_in, Rule}
-use Rattle.format.specs.House.{Rising, FitsRule, FitsBody, counts_of}
+use Rattle.format.specs.House.{Rising, FitsRule, counts_of}
 use Rattle.reader.specs.Places.{price_at, cells_at, choices_at, rule_at, scope_at, table_at}
 use Rattle.reader.specs.Indexed.{Found, layout_by}
 use Rattle.layout.specs.Meant.{mask_of, place_of, choices_in, own_in, cell_in, nth_rule, planned_in}
 use Rattle.reader.specs.declared.places.Index.{Index}
-use Rattle.reader.proofs.Fronts.{take_four}
 use Rattle.layout.specs.Cells.{place_below, begins_at, begins_long}
 
 pub each_at : {A : Type 0} (P : A → Type 0) (xs : List A) (i : ℕ) (d : A) → Each P xs → i < length xs → P (slice_index_or xs i d)
@@ -34,63 +33,56 @@ row_length [] i = refl
 row_length (x ∷ xs) zero = refl
 row_length (x ∷ xs) (suc i) = row_length xs i
 
--- the price at a place, from its four bytes
-pub four_at : (bs : List ℕ) (k a b c d : ℕ) → k + 4 ≤ length bs → a ≡ slice_index bs k → b ≡ slice_index bs (k + 1) → c ≡ slice_index bs (k + 2) → d ≡ slice_index bs (k + 3) → a * 16777216 + b * 65536 + c * 256 + d ≡ price_at bs k
-four_at bs k a b c d h e f g j =
-    let four = ap number (take_four (drop k bs) (omega (arith, length-drop k bs))) in
-    let z0 = get_or-drop k bs 0 0 ∙ ap (λ n. slice_index bs n) (add-zero k) in
-    let z1 = get_or-drop k bs 1 0 in
-    let z2 = get_or-drop k bs 2 0 in
-    let z3 = get_or-drop k bs 3 0 in
-    omega (arith, four, z0, z1, z2, z3)
-
 module _ (bs : List ℕ) (x : Index) where
-  pub bays_is : x.bays ≡ length (layout_by bs x).own
-  bays_is = sym (length-map-range_with_len (λ i. cells_at bs (slice_index x.own_at i) (slice_index (choices_at bs x.bays) i)) 0 x.bays)
+  price_from : (k j : ℕ) → price_at (drop k bs) j ≡ price_at bs (k + j)
+  price_from k j = ap (λ (l : List ℕ). number (take 4 l)) (drop-drop j k bs)
 
-  pub rules_is : x.rules ≡ length (layout_by bs x).rules
-  rules_is = sym (length-map-range_with_len (λ r. rule_at bs (choices_at bs x.bays) (slice_index x.rule_at r)) 0 x.rules)
+  first_from : (at : ℕ) (rest : List ℕ) → rest ≡ drop at bs → slice_index rest 0 ≡ slice_index bs at
+  first_from at rest is = ap (λ (l : List ℕ). slice_index l 0) is ∙ get_or-drop at bs 0 0 ∙ ap (λ (n : ℕ). slice_index bs n) (add-zero at)
 
-  row_is : (i : ℕ) → i < x.bays → slice_index_or (layout_by bs x).own i [] ≡ cells_at bs (slice_index x.own_at i) (slice_index (choices_at bs x.bays) i)
-  row_is i h = get_or-map-range_with_len (λ i. cells_at bs (slice_index x.own_at i) (slice_index (choices_at bs x.bays) i)) 0 x.bays i i [] h (omega arith)
+  pub bays_is : length x.own_at.items ≡ length (layout_by bs x).own
+  bays_is = sym (length-map-range_with_len (λ i. cells_at bs (slice_index x.own_at.items i) (slice_index (choices_at bs (length x.own_at.items)) i)) 0 (length x.own_at.items))
 
-  pub rule_is : (r : ℕ) → r < x.rules → nth_rule (layout_by bs x) r ≡ rule_at bs (choices_at bs x.bays) (slice_index x.rule_at r)
-  rule_is r h = get_or-map-range_with_len (λ r. rule_at bs (choices_at bs x.bays) (slice_index x.rule_at r)) 0 x.rules r r (record { scope = []; cells = [] }) h (omega arith)
+  pub counts_long : length (counts_of (layout_by bs x)) ≡ length x.own_at.items
+  counts_long = length-map (layout_by bs x).own (λ (l : List ℕ). length l) ∙ sym bays_is
+
+  pub rules_is : length x.rule_at.items ≡ length (layout_by bs x).rules
+  rules_is = sym (length-map-range_with_len (λ r. rule_at bs (choices_at bs (length x.own_at.items)) (slice_index x.rule_at.items r)) 0 (length x.rule_at.items))
+
+  row_is : (i : ℕ) → i < length x.own_at.items → slice_index_or (layout_by bs x).own i [] ≡ cells_at bs (slice_index x.own_at.items i) (slice_index (choices_at bs (length x.own_at.items)) i)
+  row_is i h = get_or-map-range_with_len (λ i. cells_at bs (slice_index x.own_at.items i) (slice_index (choices_at bs (length x.own_at.items)) i)) 0 (length x.own_at.items) i i [] h (omega arith)
+
+  pub rule_is : (r : ℕ) → r < length x.rule_at.items → nth_rule (layout_by bs x) r ≡ rule_at bs (choices_at bs (length x.own_at.items)) (slice_index x.rule_at.items r)
+  rule_is r h = get_or-map-range_with_len (λ r. rule_at bs (choices_at bs (length x.own_at.items)) (slice_index x.rule_at.items r)) 0 (length x.rule_at.items) r r (record { scope = []; cells = [] }) h (omega arith)
 
   -- the choices of a bay
-  choices_are : (i : ℕ) → i < x.bays → choices_in (layout_by bs x) i ≡ slice_index (choices_at bs x.bays) i
-  choices_are i h = row_length (layout_by bs x).own i ∙ ap length (row_is i h) ∙ length-map-range_with_len (λ k. price_at bs (slice_index x.own_at i + 4 * k)) 0 (slice_index (choices_at bs x.bays) i)
+  choices_are : (i : ℕ) → i < length x.own_at.items → choices_in (layout_by bs x) i ≡ slice_index (choices_at bs (length x.own_at.items)) i
+  choices_are i h = row_length (layout_by bs x).own i ∙ ap length (row_is i h) ∙ length-map-range_with_len (λ k. price_at bs (slice_index x.own_at.items i + 4 * k)) 0 (slice_index (choices_at bs (length x.own_at.items)) i)
 
-  pub choices_here : (i : ℕ) → i < x.bays → slice_index bs (2 + i) ≡ choices_in (layout_by bs x) i
-  choices_here i h = sym (choices_are i h ∙ get_or-take x.bays (drop 2 bs) i 0 h ∙ get_or-drop 2 bs i 0)
-
-  pub choices_past : (i : ℕ) → x.bays ≤ i → choices_in (layout_by bs x) i ≡ 0
+  pub choices_past : (i : ℕ) → length x.own_at.items ≤ i → choices_in (layout_by bs x) i ≡ 0
   choices_past i h = get_or_past (map length (layout_by bs x).own) i 0 (omega (arith, length-map (layout_by bs x).own (λ (l : List ℕ). length l), bays_is))
 
-  pub bay_in : (i j : ℕ) → j < choices_in (layout_by bs x) i → i < x.bays
-  bay_in i j h = ⊎_elim (λ lt. lt) (λ ge. absurd (omega (arith, choices_past i ge))) (cases_lt i x.bays)
+  pub bay_in : (i j : ℕ) → j < choices_in (layout_by bs x) i → i < length x.own_at.items
+  bay_in i j h = ⊎_elim (λ lt. lt) (λ ge. absurd (omega (arith, choices_past i ge))) (cases_lt i (length x.own_at.items))
 
   -- own prices
-  pub own_some : (i j : ℕ) → j < choices_in (layout_by bs x) i → Some (price_at bs (slice_index x.own_at i + 4 * j)) ≡ own_in (layout_by bs x) i j
+  pub own_some : (i j : ℕ) → j < choices_in (layout_by bs x) i → Some (price_at bs (slice_index x.own_at.items i + 4 * j)) ≡ own_in (layout_by bs x) i j
   own_some i j h =
-      let lt : i < x.bays = bay_in i j h in
-      let n : ℕ = get_or (choices_at bs x.bays) i 0 in
+      let lt : i < length x.own_at.items = bay_in i j h in
+      let n : ℕ = get_or (choices_at bs (length x.own_at.items)) i 0 in
       let few : j < n = omega (arith, choices_are i lt) in
-      let row : List ℕ = cells_at bs (slice_index x.own_at i) n in
-      let long : length row ≡ n = length-map-range_with_len (λ k. price_at bs (slice_index x.own_at i + 4 * k)) 0 n in
-      sym (ap (λ l. slice_get l j) (row_is i lt) ∙ slice_get-get_or row j 0 (omega arith) ∙ ap Some (get_or-map-range_with_len (λ k. price_at bs (slice_index x.own_at i + 4 * k)) 0 n j j 0 few (omega arith)))
+      let row : List ℕ = cells_at bs (slice_index x.own_at.items i) n in
+      let long : length row ≡ n = length-map-range_with_len (λ k. price_at bs (slice_index x.own_at.items i + 4 * k)) 0 n in
+      sym (ap (λ l. slice_get l j) (row_is i lt) ∙ slice_get-get_or row j 0 (omega arith) ∙ ap Some (get_or-map-range_with_len (λ k. price_at bs (slice_index x.own_at.items i + 4 * k)) 0 n j j 0 few (omega arith)))
 
   pub own_none : (i j : ℕ) → choices_in (layout_by bs x) i ≤ j → None ≡ own_in (layout_by bs x) i j
   own_none i j h = sym (slice_get_past (slice_index_or (layout_by bs x).own i []) j (omega (arith, row_length (layout_by bs x).own i)))
 
   module _ (t : ∥ Found bs x ∥₁) where
-    pub fits_of : ∥ FitsBody 4294967295 (layout_by bs x) ∥₁
-    fits_of = ∥∥₁_map t (λ f. f.fits)
-
-    pub few_bays : x.bays ≤ 24
+    pub few_bays : length x.own_at.items ≤ 24
     few_bays = ∥∥₁_elim t le_prop (λ f. omega (arith, f.fits.few, bays_is))
 
-    pub few_rules : x.rules ≤ 64
+    pub few_rules : length x.rule_at.items ≤ 64
     few_rules = ∥∥₁_elim t le_prop (λ f. omega (arith, f.fits.rules_few, rules_is))
 
     pub few_choices : (i : ℕ) → choices_in (layout_by bs x) i ≤ 8
@@ -99,46 +91,35 @@ module _ (bs : List ℕ) (x : Index) where
         (λ ge. omega (arith, get_or_past (counts_of (layout_by bs x)) i 0 ge))
         (cases_lt i (length (counts_of (layout_by bs x)))))
 
-    pub counts_in : 2 + x.bays ≤ length bs
+    pub counts_in : 2 + length x.own_at.items ≤ length bs
     counts_in = ∥∥₁_elim t le_prop (λ f. f.counts)
 
-    pub own_inside : (i j : ℕ) → j < choices_in (layout_by bs x) i → slice_index x.own_at i + 4 * j + 4 ≤ length bs
+    pub own_inside : (i j : ℕ) → j < choices_in (layout_by bs x) i → slice_index x.own_at.items i + 4 * j + 4 ≤ length bs
     own_inside i j h = ∥∥₁_elim t le_prop (λ f. omega (arith, f.rows i (bay_in i j h), choices_are i (bay_in i j h)))
 
-    pub rule_inside : (r : ℕ) → r < x.rules → table_at bs (slice_index x.rule_at r) + 4 * cells_in (choices_at bs x.bays) (scope_at bs (slice_index x.rule_at r)) ≤ length bs
+    pub rule_inside : (r : ℕ) → r < length x.rule_at.items → table_at bs (slice_index x.rule_at.items r) + 4 * cells_in (choices_at bs (length x.own_at.items)) (scope_at bs (slice_index x.rule_at.items r)) ≤ length bs
     rule_inside r h = ∥∥₁_elim t le_prop (λ f. f.tables r h)
 
-    pub scope_length : (r : ℕ) → r < x.rules → length (nth_rule (layout_by bs x) r).scope ≡ slice_index bs (slice_index x.rule_at r)
-    scope_length r h =
-        let at : ℕ = get_or x.rule_at r 0 in
-        ap (λ (l : Rule). length l.scope) (rule_is r h) ∙ length-take-le (slice_index bs at) (drop (at + 1) bs) (omega (arith, rule_inside r h, length-drop (at + 1) bs))
-
     -- a rule that the book has keeps the limits
-    pub few_scope : (r : ℕ) → r < x.rules → length (nth_rule (layout_by bs x) r).scope ≤ 4
+    pub few_scope : (r : ℕ) → r < length x.rule_at.items → length (nth_rule (layout_by bs x) r).scope ≤ 4
     few_scope r h = ∥∥₁_elim t le_prop (λ f. (each_at (FitsRule 4294967295 (counts_of (layout_by bs x))) (layout_by bs x).rules r (record { scope = []; cells = [] }) f.fits.ruled (omega (arith, rules_is))).few)
 
     -- the bays of a rule are bays of the book
-    pub scope_within : (r : ℕ) → r < x.rules → (i : ℕ) → i < length (nth_rule (layout_by bs x) r).scope → slice_index (nth_rule (layout_by bs x) r).scope i < x.bays
+    pub scope_within : (r : ℕ) → r < length x.rule_at.items → (i : ℕ) → i < length (nth_rule (layout_by bs x) r).scope → slice_index (nth_rule (layout_by bs x) r).scope i < length x.own_at.items
     scope_within r h i l = ∥∥₁_elim t le_prop (λ f.
         let fit = each_at (FitsRule 4294967295 (counts_of (layout_by bs x))) (layout_by bs x).rules r (record { scope = []; cells = [] }) f.fits.ruled (omega (arith, rules_is)) in
         omega (arith, rising_at 0 (length (counts_of (layout_by bs x))) (nth_rule (layout_by bs x) r).scope fit.rises i l, length-map (layout_by bs x).own (λ (l : List ℕ). length l), bays_is))
 
-    -- the choices as the code cuts them out
-    pub counts_length : length (take (2 + x.bays - 2) (drop 2 bs)) ≡ x.bays
-    counts_length =
-        let k : 2 + x.bays - 2 ≡ x.bays = omega arith in
-        ap (λ (j : ℕ). length (take j (drop 2 bs))) k ∙ length-take-le x.bays (drop 2 bs) (omega (arith, counts_in, length-drop 2 bs))
-
-    pub plan_long : (plan : List ℕ) → planned_in (layout_by bs x) plan ≡ true → x.bays ≤ length plan
+    pub plan_long : (plan : List ℕ) → planned_in (layout_by bs x) plan ≡ true → length x.own_at.items ≤ length plan
     plan_long plan e =
         omega (arith, bays_is, begins_long (choices_in (layout_by bs x)) (length (layout_by bs x).own) plan (λ i. omega (arith, few_choices i)) e)
 
-    counts_same : counts_of (layout_by bs x) ≡ choices_at bs x.bays
-    counts_same = ext_get_or 0 (counts_of (layout_by bs x)) (choices_at bs x.bays)
-        (length-map (layout_by bs x).own (λ (l : List ℕ). length l) ∙ sym bays_is ∙ sym (length-take-le x.bays (drop 2 bs) (omega (arith, counts_in, length-drop 2 bs))))
+    pub counts_same : counts_of (layout_by bs x) ≡ choices_at bs (length x.own_at.items)
+    counts_same = ext_get_or 0 (counts_of (layout_by bs x)) (choices_at bs (length x.own_at.items))
+        (length-map (layout_by bs x).own (λ (l : List ℕ). length l) ∙ sym bays_is ∙ sym (length-take-le (length x.own_at.items) (drop 2 bs) (omega (arith, counts_in, length-drop 2 bs))))
         (λ i h. choices_are i (omega (arith, length-map (layout_by bs x).own (λ (l : List ℕ). length l), bays_is)))
 
-    place_inside : (r : ℕ) (plan : List ℕ) → r < x.rules → planned_in (layout_by bs x) plan ≡ true → place_of (counts_of (layout_by bs x)) plan 0 (nth_rule (layout_by bs x) r).scope < cells_in (counts_of (layout_by bs x)) (nth_rule (layout_by bs x) r).scope
+    place_inside : (r : ℕ) (plan : List ℕ) → r < length x.rule_at.items → planned_in (layout_by bs x) plan ≡ true → place_of (counts_of (layout_by bs x)) plan 0 (nth_rule (layout_by bs x) r).scope < cells_in (counts_of (layout_by bs x)) (nth_rule (layout_by bs x) r).scope
     place_inside r plan h e = ∥∥₁_elim t le_prop (λ f.
         let fit = each_at (FitsRule 4294967295 (counts_of (layout_by bs x))) (layout_by bs x).rules r (record { scope = []; cells = [] }) f.fits.ruled (omega (arith, rules_is)) in
         let below = place_below (counts_of (layout_by bs x)) plan (nth_rule (layout_by bs x) r).scope 0 (length (counts_of (layout_by bs x))) fit.rises
@@ -146,10 +127,10 @@ module _ (bs : List ℕ) (x : Index) where
         omega arith)
 
     -- the cell of a plan
-    cell_some : (r : ℕ) (plan : List ℕ) (p : ℕ) → r < x.rules → planned_in (layout_by bs x) plan ≡ true → p ≡ place_of (counts_of (layout_by bs x)) plan 0 (nth_rule (layout_by bs x) r).scope → (table_at bs (slice_index x.rule_at r) + 4 * p + 4 ≤ length bs) × (Some (price_at bs (table_at bs (slice_index x.rule_at r) + 4 * p)) ≡ cell_in (layout_by bs x) r plan)
+    cell_some : (r : ℕ) (plan : List ℕ) (p : ℕ) → r < length x.rule_at.items → planned_in (layout_by bs x) plan ≡ true → p ≡ place_of (counts_of (layout_by bs x)) plan 0 (nth_rule (layout_by bs x) r).scope → (table_at bs (slice_index x.rule_at.items r) + 4 * p + 4 ≤ length bs) × (Some (price_at bs (table_at bs (slice_index x.rule_at.items r) + 4 * p)) ≡ cell_in (layout_by bs x) r plan)
     cell_some r plan p h e is =
-        let at : ℕ = get_or x.rule_at r 0 in
-        let cs : List ℕ = choices_at bs x.bays in
+        let at : ℕ = get_or x.rule_at.items r 0 in
+        let cs : List ℕ = choices_at bs (length x.own_at.items) in
         let n : ℕ = cells_in cs (scope_at bs at) in
         let size : cells_in (counts_of (layout_by bs x)) (nth_rule (layout_by bs x) r).scope ≡ n = (λ k. cells_in (counts_same k) (rule_is r h k).scope) in
         let below : p < n = omega (arith, place_inside r plan h e, size, is) in
@@ -159,21 +140,38 @@ module _ (bs : List ℕ) (x : Index) where
           sym (ap (λ (l : Rule). slice_get l.cells (place_of (counts_of (layout_by bs x)) plan 0 (nth_rule (layout_by bs x) r).scope)) (rule_is r h) ∙ ap (λ (k : ℕ). slice_get row k) (sym is) ∙ slice_get-get_or row p 0 (omega arith) ∙ ap Some (get_or-map-range_with_len (λ k. price_at bs (table_at bs at + 4 * k)) 0 n p p 0 below (omega arith))),
         )
 
-    -- the same, as the code has it
-    pub cell_read : (r : ℕ) (plan scope : List ℕ) (p : ℕ) → r < x.rules → planned_in (layout_by bs x) plan ≡ true → scope ≡ (nth_rule (layout_by bs x) r).scope → p ≡ place_of (take (2 + x.bays - 2) (drop 2 bs)) plan 0 scope → (slice_index x.rule_at r + 1 + length scope + 4 * p + 4 ≤ length bs) × (Some (price_at bs (slice_index x.rule_at r + 1 + length scope + 4 * p)) ≡ cell_in (layout_by bs x) r plan)
-    cell_read r plan scope p h e s is =
-        let k : 2 + x.bays - 2 ≡ x.bays = omega arith in
-        let same : take (2 + x.bays - 2) (drop 2 bs) ≡ counts_of (layout_by bs x) = ap (λ (j : ℕ). take j (drop 2 bs)) k ∙ sym counts_same in
-        let at : ℕ = get_or x.rule_at r 0 in
-        let table : at + 1 + length scope ≡ table_at bs at = omega (arith, scope_length r h, ap (λ (l : List ℕ). length l) s) in
-        let c = cell_some r plan p h e (is ∙ (λ i. place_of (same i) plan 0 (s i))) in
-        (omega (arith, c.0), ap (λ (j : ℕ). Some (price_at bs (j + 4 * p))) table ∙ c.1)
+    -- the same, from the table on
+    pub cell_read : (r : ℕ) (plan scope table : List ℕ) (p v : ℕ) → r < length x.rule_at.items → planned_in (layout_by bs x) plan ≡ true → scope ≡ (nth_rule (layout_by bs x) r).scope → table ≡ drop (table_at bs (slice_index x.rule_at.items r)) bs → p ≡ place_of (counts_of (layout_by bs x)) plan 0 scope → (4 * p + 4 ≤ length table) × (v ≡ price_at table (4 * p) → Some v ≡ cell_in (layout_by bs x) r plan)
+    cell_read r plan scope table p v h e s is place =
+        let at : ℕ = table_at bs (slice_index x.rule_at.items r) in
+        let c = cell_some r plan p h e (place ∙ (λ i. place_of (counts_of (layout_by bs x)) plan 0 (s i))) in
+        (omega (arith, c.0, ap (λ (l : List ℕ). length l) is, length-drop at bs), λ q. ap Some (q ∙ ap (λ (l : List ℕ). price_at l (4 * p)) is ∙ price_from at (4 * p)) ∙ c.1)
 
-  rule_past : (r : ℕ) → x.rules ≤ r → nth_rule (layout_by bs x) r ≡ record { scope = []; cells = [] }
+    -- rows and rules begin within the bytes
+    pub row_starts : (i : ℕ) → i < length x.own_at.items → slice_index x.own_at.items i ≤ length bs
+    row_starts i h = ∥∥₁_elim t le_prop (λ f. omega (arith, f.rows i h))
+
+    pub rule_starts : (r : ℕ) → r < length x.rule_at.items → slice_index x.rule_at.items r ≤ length bs
+    rule_starts r h = omega (arith, rule_inside r h)
+
+    -- the row of a bay, from its place on
+    pub row_read : (i j n v : ℕ) (row : List ℕ) → row ≡ drop (slice_index x.own_at.items i) bs → n ≡ j → j < choices_in (layout_by bs x) i → (4 * n + 4 ≤ length row) × (v ≡ price_at row (4 * n) → Some v ≡ own_in (layout_by bs x) i j)
+    row_read i j n v row is e h =
+        let at : ℕ = slice_index x.own_at.items i in
+        (omega (arith, own_inside i j h, ap (λ (l : List ℕ). length l) is, length-drop at bs), λ q. ap Some (q ∙ (λ k. price_at (is k) (4 * e k)) ∙ price_from at (4 * j)) ∙ own_some i j h)
+
+    pub rule_cut : (r n : ℕ) (rest tail : List ℕ) → r < length x.rule_at.items → rest ≡ drop (slice_index x.rule_at.items r) bs → tail ≡ take (length rest - 1) (drop 1 rest) → n ≡ slice_index rest 0 → (take n tail ≡ (nth_rule (layout_by bs x) r).scope) × (drop n tail ≡ drop (table_at bs (slice_index x.rule_at.items r)) bs)
+    rule_cut r n rest tail h is cut e =
+        let at : ℕ = slice_index x.rule_at.items r in
+        let count : n ≡ slice_index bs at = e ∙ first_from at rest is in
+        let left : tail ≡ drop (at + 1) bs = cut ∙ take_rest rest 1 ∙ ap (drop 1) is ∙ drop-drop 1 at bs in
+        ((λ i. take (count i) (left i)) ∙ sym (ap (λ (l : Rule). l.scope) (rule_is r h)), (λ i. drop (count i) (left i)) ∙ drop-drop (slice_index bs at) (at + 1) bs)
+
+  rule_past : (r : ℕ) → length x.rule_at.items ≤ r → nth_rule (layout_by bs x) r ≡ record { scope = []; cells = [] }
   rule_past r h = get_or_past (layout_by bs x).rules r (record { scope = []; cells = [] }) (omega (arith, rules_is))
 
-  pub cell_none : (r : ℕ) (plan : List ℕ) → x.rules ≤ r → None ≡ cell_in (layout_by bs x) r plan
+  pub cell_none : (r : ℕ) (plan : List ℕ) → length x.rule_at.items ≤ r → None ≡ cell_in (layout_by bs x) r plan
   cell_none r plan h = sym (ap (λ (l : Rule). slice_get l.cells (place_of (counts_of (layout_by bs x)) plan 0 (nth_rule (layout_by bs x) r).scope)) (rule_past r h))
 
-  pub mask_past : (r : ℕ) → x.rules ≤ r → 0 ≡ mask_of (nth_rule (layout_by bs x) r).scope
+  pub mask_past : (r : ℕ) → length x.rule_at.items ≤ r → 0 ≡ mask_of (nth_rule (layout_by bs x) r).scope
   mask_past r h = sym (ap (λ (l : Rule). mask_of l.scope) (rule_past r h))

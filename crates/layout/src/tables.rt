@@ -1,39 +1,26 @@
-// Single answers from the bytes of a book: a price, the choices of a bay, the set of a scope's bays, the place of a cell.
-ghost use Rattle.std.specs.Prelude.{◌≡◌, ℕ, ◌+◌, ◌-◌, ◌*◌, ◌^◌, ◌<◌, ◌≤◌, length, bit_or, slice_index};
-ghost use Rattle.model.specs.Sets.{one};
+// Single answers from the bytes of a book: a price, the set of a scope's bays, the place of a cell.
+ghost use Rattle.std.specs.Prelude.{◌≡◌, ℕ, ◌+◌, ◌-◌, ◌*◌, ◌^◌, ◌<◌, ◌≤◌, drop, length, MatchOption, slice_index};
 ghost use Rattle.reader.specs.Places.{price_at};
 ghost use Rattle.layout.specs.Meant.{mask_of, place_of};
 
-// The four bytes at a place, the high byte first.
-fn price_at(body: &[u8], at: usize) -> u32
-    requires { at + 4 ≤ length body.now }
-    ensures { result ≡ price_at body.now at }
+use bays::with;
+
+// The bytes from one of some places on.
+pub(crate) fn from_place<'a>(body: &'a [u8], places: &[usize], n: usize) -> Option<&'a [u8]>
+    requires { (i : ℕ) → i < length places.now → slice_index places.now i ≤ length body.now }
+    ensures { MatchOption result (length places.now ≤ n) (λ rest. (n < length places.now) × (rest.now ≡ drop (slice_index places.now n) body.now)) }
 {
-    u32::from_be_bytes([body[at], body[at + 1], body[at + 2], body[at + 3]])
+    let at = *places.get(n)?;
+    Some(&body[at..])
 }
 
-// The price at a place in a row or table that begins at first.
-pub(crate) fn nth_price(body: &[u8], first: usize, n: usize) -> u32
-    requires { first + 4 * n + 4 ≤ length body.now }
-    ensures { result ≡ price_at body.now (first + 4 * n) }
+// The price at a place in a row or table: four bytes, the high byte first.
+pub(crate) fn nth_price(cells: &[u8], n: usize) -> u32
+    requires { 4 * n + 4 ≤ length cells.now }
+    ensures { result ≡ price_at cells.now (4 * n) }
 {
-    price_at(body, first + 4 * n)
-}
-
-// The choices of a bay, which stand after the two counts.
-pub(crate) fn choices_at(body: &[u8], bay: usize) -> u8
-    requires { 2 + bay < length body.now }
-    ensures { result ≡ slice_index body.now (2 + bay) }
-{
-    body[2 + bay]
-}
-
-// A set with one bay more.
-fn with_bay(set: u32, bay: u8) -> u32
-    requires { bay < 24 }
-    ensures { result ≡ bit_or (one bay) set }
-{
-    1 << bay | set
+    let at = 4 * n;
+    u32::from_be_bytes(cells[at..at + 4].try_into().unwrap())
 }
 
 // The set of the bays of a scope.
@@ -41,10 +28,7 @@ pub(crate) fn mask(scope: &[u8]) -> u32
     requires { (i : ℕ) → i < length scope.now → slice_index scope.now i < 24 }
     ensures { result ≡ mask_of scope.now }
 {
-    match scope {
-        [] => 0,
-        [bay, rest @ ..] => with_bay(mask(rest), *bay),
-    }
+    scope.iter().rev().fold(0, |set, &bay| with(set, bay))
 }
 
 // The place so far times the next bay's choices, plus its choice.

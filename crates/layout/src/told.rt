@@ -18,13 +18,14 @@ impl Kept {
         ensures { viewed result ≡ kept_layout self.now }
     {
         View {
-            body: &self.bytes[0..self.len],
+            body: self.bytes.as_slice(),
             index: &self.index,
         }
     }
 }
 
-// The price of a cell; forbidden where there is none.
+// The price of a cell; forbidden where there is none. A `match`: Rattle does not cover `map_or` and the like with a function
+// whose result is a bare type parameter.
 fn priced_at<P: Stored>(cell: Option<u32>) -> P
     ensures { result ≡ priced P.ops P.cell cell }
 {

@@ -1,79 +1,75 @@
 // What a book tells, read where it stands.
-ghost use Rattle.std.specs.Prelude.{◌≡◌, ◌<◌, true, length};
+ghost use Rattle.std.specs.Prelude.{◌≡◌, ◌≤◌, true, length, MatchOption};
+ghost use Rattle.format.specs.House.{counts_of};
 ghost use Rattle.layout.specs.Meant.{mask_of, choices_in, own_in, cell_in, nth_rule, planned_in};
-ghost use Rattle.layout.specs.Viewed.{viewed};
+ghost use Rattle.layout.specs.Viewed.{viewed, StandsAt};
 
-use crate::tables::{choices_at, mask, nth_price, place};
+use crate::tables::{from_place, mask, nth_price, place};
 use crate::view::View;
 
 impl<'a> View<'a> {
     pub(crate) fn bays(&self) -> usize
         ensures { result ≡ length (viewed self.now).own }
     {
-        self.index.bays
+        self.index.own_at.len()
     }
 
     pub(crate) fn rules(&self) -> usize
         ensures { result ≡ length (viewed self.now).rules }
     {
-        self.index.rules
+        self.index.rule_at.len()
+    }
+
+    // The choices of each bay, which stand after the two counts.
+    fn counts(&self) -> &'a [u8]
+        ensures { result.now ≡ counts_of (viewed self.now) }
+    {
+        &self.body[2..2 + self.bays()]
     }
 
     pub(crate) fn choices(&self, bay: usize) -> u8
         ensures { result ≡ choices_in (viewed self.now) bay }
     {
-        if bay < self.index.bays {
-            choices_at(self.body, bay)
-        } else {
-            0
-        }
+        self.counts().get(bay).copied().unwrap_or(0)
     }
 
-    // The own price of a bay's choice.
+    // The own price of a bay's choice. An `if`: the closure of a `then` would have to state what `nth_price` requires once more.
     pub(crate) fn own(&self, bay: usize, choice: u8) -> Option<u32>
         ensures { result ≡ own_in (viewed self.now) bay choice }
     {
+        let row = from_place(self.body, self.index.own_at.as_slice(), bay)?;
         if choice < self.choices(bay) {
-            Some(nth_price(self.body, self.index.own_at[bay], usize::from(choice)))
+            Some(nth_price(row, usize::from(choice)))
         } else {
             None
         }
     }
 
-    // The bays of a rule, where they stand.
-    fn scope_of(&self, rule: usize) -> &'a [u8]
-        requires { rule < self.now.index.now.rules }
-        ensures { result.now ≡ (nth_rule (viewed self.now) rule).scope }
+    // The bays of a rule, where they stand, and its prices with all that follows them.
+    fn rule(&self, rule: usize) -> Option<(&'a [u8], &'a [u8])>
+        ensures { MatchOption result (length self.now.index.now.rule_at.items ≤ rule) (λ p. StandsAt self.now rule p.0.now p.1.now) }
     {
-        let at = self.index.rule_at[rule];
-        let n = usize::from(self.body[at]);
-        &self.body[at + 1..at + 1 + n]
+        let rest = from_place(self.body, self.index.rule_at.as_slice(), rule)?;
+        Some(rest[1..].split_at(usize::from(rest[0])))
     }
 
     // The bays of a rule as a set.
     pub(crate) fn scope(&self, rule: usize) -> u32
         ensures { result ≡ mask_of (nth_rule (viewed self.now) rule).scope }
     {
-        if rule < self.index.rules {
-            mask(self.scope_of(rule))
-        } else {
-            0
+        match self.rule(rule) {
+            Some((scope, _)) => mask(scope),
+            None => 0,
         }
     }
 
-    // Whether the bytes begin with a choice for every bay.
+    // Whether the bytes begin with a choice for every bay. Rattle does not cover a call of `books::plan::is_plan` on the book
+    // within its own `impl Book`: a method of the block leads back to the function that calls.
     pub(crate) fn is_plan(&self, plan: &[u8]) -> bool
         ensures { result ≡ planned_in (viewed self.now) plan.now }
     {
-        if plan.len() < self.index.bays {
-            return false;
-        }
-        for i in 0..self.index.bays {
-            if plan[i] >= self.choices(i) {
-                return false;
-            }
-        }
-        true
+        let counts = self.counts();
+        plan.len() >= counts.len() && counts.iter().zip(plan).all(|(n, choice)| choice < n)
     }
 
     // The cell of a rule under a plan.
@@ -81,12 +77,7 @@ impl<'a> View<'a> {
         requires { planned_in (viewed self.now) plan.now ≡ true }
         ensures { result ≡ cell_in (viewed self.now) rule plan.now }
     {
-        if rule >= self.index.rules {
-            return None;
-        }
-        let scope = self.scope_of(rule);
-        let counts = &self.body[2..2 + self.index.bays];
-        let table = self.index.rule_at[rule] + 1 + scope.len();
-        Some(nth_price(self.body, table, place(counts, scope, plan, 0)))
+        let (scope, table) = self.rule(rule)?;
+        Some(nth_price(table, place(self.counts(), scope, plan, 0)))
     }
 }

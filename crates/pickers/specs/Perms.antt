@@ -1,16 +1,18 @@
 -- Orders of the bays, and the sets of their numbers.
-use Rattle.std.specs.Prelude.{◌≡◌, ℕ, zero, suc, ◌+◌, ◌^◌, ◌<◌, ◌≤◌, Bool, true, false, cond, ◌&&◌, ◌||◌, ◌⊎◌, List, [], ◌∷◌, length, fold, ◌==◌, bit_or, nat_eq, nat_lt}
+use Rattle.std.specs.Prelude.{◌≡◌, ℕ, zero, suc, ◌+◌, ◌^◌, ◌<◌, ◌≤◌, Bool, true, false, cond, ◌&&◌, ◌||◌, ◌⊎◌, List, [], ◌∷◌, ◌++◌, reverse, Some, None, find, unwrap_or, length, filter, fold, ◌==◌, bit_or, nat_eq, nat_lt}
 use Rattle.std.proofs.Math.Path.{refl, ap}
 use Rattle.std.proofs.Common.{sym, subst, ◌∙◌, inl, ⊎_elim, arith, pow_pos}
 use Rattle.std.proofs.Math.Logic.{inr}
 use Rattle.std.specs.Int.Count.{count_trailing_zeros}
 use Rattle.std.proofs.lemmas.Bool.{cases_lt, and_parts, and_from, and_right, or_cases, both_ways, eqb-true, eq-eqb, ne_eqb, ltb-true, ltb-false, lt-ltb}
+use Rattle.std.proofs.lemmas.List.{reverse-append}
 use Rattle.std.proofs.lemmas.Nat.{pow_below, or_lt}
 use Rattle.model.specs.Lists.{member, times}
 use Rattle.model.specs.Sets.{bit, has, one}
 use Rattle.model.proofs.Bits.{has_or, has_one, has_none, has_below, full_bit, same_set, some_bay}
 use Rattle.model.proofs.Kept.{same_bools, turn}
-use Rattle.pickers.specs.Gathered.{with_one, mask_in}
+use Rattle.bays.specs.Made.{with_one}
+use Rattle.pickers.specs.Gathered.{mask_in}
 use Rattle.pickers.specs.Orders.{every, permutes, later, last_in, NoneRemains, Last}
 
 pub every_from : (n : ℕ) (p : ℕ → Bool) → ((b : ℕ) → b < n → p b ≡ true) → every n p ≡ true
@@ -24,40 +26,41 @@ every_at (suc n) p h b l =
     ⊎_elim (λ lt. every_at n p parts.1 b lt) (λ ge. let e : n ≡ b = omega arith in subst (λ (x : ℕ). p x ≡ true) e parts.0) (cases_lt b n)
 
 -- what has been gathered
-with_has : (m x b : ℕ) → b < 24 → has (with_one m x) b ≡ (has m b || b == x)
-with_has m x b h = go (nat_lt x 24) refl
-  where
-    or_no : (y z : Bool) → z ≡ false → y ≡ (y || z)
-    or_no true z e = refl
-    or_no false z e = sym e
+abbrev gathered : ℕ → List ℕ → ℕ
+gathered m xs = fold with_one m (filter (λ x. nat_lt x 24) xs)
 
-    go : (t : Bool) → nat_lt x 24 ≡ t → has (cond t (bit_or m (one x)) m) b ≡ (has m b || b == x)
-    go true e = has_or m (one x) b ∙ ap (λ (y : Bool). has m b || y) (has_one x b ∙ turn x b)
-    go false e = let g = ltb-false x 24 e in or_no (has m b) (b == x) (ne_eqb b x (λ p. omega arith))
+with_has : (m x b : ℕ) → x < 24 → has (with_one m x) b ≡ (has m b || b == x)
+with_has m x b h = ap (λ (t : Bool). has (cond t (bit_or m (one x)) m) b) (lt-ltb x 32 (omega arith)) ∙ has_or m (one x) b ∙ ap (λ (y : Bool). has m b || y) (has_one x b ∙ turn x b)
 
-gathered_has : (xs : List ℕ) (m b : ℕ) → b < 24 → has (fold with_one m xs) b ≡ (has m b || member b xs)
+gathered_has : (xs : List ℕ) (m b : ℕ) → b < 24 → has (gathered m xs) b ≡ (has m b || member b xs)
 gathered_has [] m b h = or_none (has m b)
   where
     or_none : (y : Bool) → y ≡ (y || false)
     or_none true = refl
     or_none false = refl
-gathered_has (x ∷ xs) m b h =
-    gathered_has xs (with_one m x) b h ∙ ap (λ (y : Bool). y || member b xs) (with_has m x b h) ∙ assoc (has m b) (b == x) (member b xs)
+gathered_has (x ∷ xs) m b h = go (nat_lt x 24) refl (gathered_has xs (with_one m x) b h) (gathered_has xs m b h)
   where
     assoc : (x y z : Bool) → ((x || y) || z) ≡ (x || (y || z))
     assoc true y z = refl
     assoc false y z = refl
 
-with_small : (m x : ℕ) → m < 2 ^ 24 → with_one m x < 2 ^ 24
-with_small m x h = go (nat_lt x 24) refl
-  where
-    go : (t : Bool) → nat_lt x 24 ≡ t → cond t (bit_or m (one x)) m < 2 ^ 24
-    go true e = or_lt 24 m (one x) h (pow_below x 24 (ltb-true x 24 e))
-    go false e = h
+    go : (t : Bool) → nat_lt x 24 ≡ t → has (gathered (with_one m x) xs) b ≡ (has (with_one m x) b || member b xs) → has (gathered m xs) b ≡ (has m b || member b xs)
+        → has (fold with_one m (cond t (x ∷ filter (λ x. nat_lt x 24) xs) (filter (λ x. nat_lt x 24) xs))) b ≡ (has m b || (b == x || member b xs))
+    go true e with it = with ∙ ap (λ (y : Bool). y || member b xs) (with_has m x b (ltb-true x 24 e)) ∙ assoc (has m b) (b == x) (member b xs)
+    go false e with it = let g = ltb-false x 24 e in it ∙ ap (λ (y : Bool). has m b || (y || member b xs)) (sym (ne_eqb b x (λ p. omega arith)))
 
-gathered_small : (xs : List ℕ) (m : ℕ) → m < 2 ^ 24 → fold with_one m xs < 2 ^ 24
+gathered_small : (xs : List ℕ) (m : ℕ) → m < 2 ^ 24 → gathered m xs < 2 ^ 24
 gathered_small [] m h = h
-gathered_small (x ∷ xs) m h = gathered_small xs (with_one m x) (with_small m x h)
+gathered_small (x ∷ xs) m h = go (nat_lt x 24) refl (gathered_small xs (with_one m x)) (gathered_small xs m h)
+  where
+    with_small : (t : Bool) → x < 24 → cond t (bit_or m (one x)) m < 2 ^ 24
+    with_small true l = or_lt 24 m (one x) h (pow_below x 24 l)
+    with_small false l = h
+
+    go : (t : Bool) → nat_lt x 24 ≡ t → (with_one m x < 2 ^ 24 → gathered (with_one m x) xs < 2 ^ 24) → gathered m xs < 2 ^ 24
+        → fold with_one m (cond t (x ∷ filter (λ x. nat_lt x 24) xs) (filter (λ x. nat_lt x 24) xs)) < 2 ^ 24
+    go true e with it = with (with_small (nat_lt x 32) (ltb-true x 24 e))
+    go false e with it = it
 
 pub full_is : (xs : List ℕ) → (mask_in xs == 16777215) ≡ every 24 (λ b. member b xs)
 full_is xs = same_bools (mask_in xs == 16777215) (every 24 (λ b. member b xs)) forth back
@@ -85,10 +88,10 @@ module _ (m : ℕ) (small : m < 2 ^ 24) where
       go true e = ap (λ (y : Bool). cond (y && true) x d) (lt-ltb x 24 (has_below 24 m x small e))
       go false e = ap (λ (y : Bool). cond y x d) (and_right (nat_lt x 24) false refl)
 
-  find : (xs : List ℕ) (d : ℕ) → Found xs d (last_in m xs d)
+  seek : (xs : List ℕ) (d : ℕ) → Found xs d (last_in m xs d)
   unfolding Found
-  find [] d = inr (tt, refl)
-  find (x ∷ xs) d = go (has m x) refl (find xs (later m d x))
+  seek [] d = inr (tt, refl)
+  seek (x ∷ xs) d = go (has m x) refl (seek xs (later m d x))
     where
       further : (b : ℕ) → Last m xs b → Last m (x ∷ xs) b
       further b l = record { before = x ∷ l.before; after = l.after; stands = ap (λ (ys : List ℕ). x ∷ ys) l.stands; remains = l.remains; none = l.none }
@@ -178,7 +181,46 @@ order_last xs e m p q =
     let l = has_below 24 m b q h in
     let once = (and_parts (length xs == 24) (every 24 (λ b. nat_eq (times b xs) 1)) e).1 in
     let there : member b xs ≡ true = times_some b xs (omega (arith, eqb-true (times b xs) 1 (every_at 24 (λ b. nat_eq (times b xs) 1) once b l))) in
-    ⊎_elim (λ f. f) (λ n. absurd (both_ways (has m b) (none_of m q b xs n.0 there) h)) (find m q xs 0)
+    ⊎_elim (λ f. f) (λ n. absurd (both_ways (has m b) (none_of m q b xs n.0 there) h)) (seek m q xs 0)
 
 pub permutes_is : (xs : List ℕ) → length xs ≡ 24 → permutes xs ≡ (mask_in xs == 16777215)
 permutes_is xs e = ap (λ (t : Bool). t && every 24 (λ b. nat_eq (times b xs) 1)) (eq-eqb (length xs) 24 e) ∙ sym (full_is xs ∙ once_is xs e)
+
+-- an order has no number past 23
+abbrev Small : List ℕ → Type 0
+Small [] = Unit {0}
+Small (x ∷ xs) = (x < 24) × Small xs
+
+small_from : (xs : List ℕ) → length xs ≤ total 24 (λ b. times b xs) → Small xs
+small_from [] h = tt
+small_from (x ∷ xs) h = ⊎_elim
+    (λ l. (l, small_from xs (omega (arith, total_add 24 (λ b. cond (b == x) 1 0) (λ b. times b xs), total_one 24 x))))
+    (λ g. absurd (omega (arith, total_add 24 (λ b. cond (b == x) 1 0) (λ b. times b xs), total_none 24 x g, total_times 24 xs)))
+    (cases_lt x 24)
+
+order_small : (xs : List ℕ) → permutes xs ≡ true → Small xs
+order_small xs e =
+    let parts = and_parts (length xs == 24) (every 24 (λ b. nat_eq (times b xs) 1)) e in
+    small_from xs (omega (arith, eqb-true (length xs) 24 parts.0, total_least 24 (λ b. times b xs) (λ b l. omega (arith, eqb-true (times b xs) 1 (every_at 24 (λ b. nat_eq (times b xs) 1) parts.1 b l)))))
+
+-- the last that remains is the first from the back
+from_back : (m : ℕ) (xs : List ℕ) (d : ℕ) → Small xs → last_in m xs d ≡ unwrap_or (find (has m) (reverse xs)) d
+from_back m [] d s = refl
+from_back m (x ∷ xs) d s =
+    from_back m xs (later m d x) s.1
+    ∙ sym (ap (λ (ys : List ℕ). unwrap_or (find (has m) ys) d) (reverse-append (x ∷ []) xs) ∙ pushed (reverse xs))
+  where
+    pushed : (ys : List ℕ) → unwrap_or (find (has m) (ys ++ x ∷ [])) d ≡ unwrap_or (find (has m) ys) (later m d x)
+    pushed [] = go (has m x) ∙ sym (ap (λ (t : Bool). cond (t && has m x) x d) (lt-ltb x 24 s.0))
+      where
+        go : (t : Bool) → unwrap_or (cond t (Some x) None) d ≡ cond (true && t) x d
+        go true = refl
+        go false = refl
+    pushed (y ∷ ys) = go (has m y) (pushed ys)
+      where
+        go : (t : Bool) → unwrap_or (find (has m) (ys ++ x ∷ [])) d ≡ unwrap_or (find (has m) ys) (later m d x) → unwrap_or (cond t (Some y) (find (has m) (ys ++ x ∷ []))) d ≡ unwrap_or (cond t (Some y) (find (has m) ys)) (later m d x)
+        go true e = refl
+        go false e = e
+
+pub last_from_back : (m : ℕ) (xs : List ℕ) → permutes xs ≡ true → (d : ℕ) → last_in m xs d ≡ unwrap_or (find (has m) (reverse xs)) d
+last_from_back m xs e d = from_back m xs d (order_small xs e)

@@ -2,6 +2,5 @@
 #![tactic(auto)]
 
 pub mod order;
-pub mod orders;
 pub mod picker;
 pub mod question;

@@ -1,4 +1,5 @@
-// Answers one bay of those that remain, from the question alone.
+// Answers one bay of those that remain, from the question alone. Where none remains any number may be answered: it is no
+// Option, since nobody asks then.
 ghost use Rattle.std.specs.Prelude.{◌≡◌, ℕ, ◌^◌, ◌<◌, true};
 ghost use Rattle.model.specs.Sets.{has};
 ghost use Rattle.pickers.specs.declared.question.Question.{Question as Asked};

@@ -3,12 +3,15 @@ ghost use Rattle.std.specs.Prelude.{◌≡◌, slice_index};
 ghost use Rattle.pickers.specs.Questions.{asked, seen, kept, Canonical};
 
 use bays::{has, neighbours_of, without};
+use std::array;
 
 // The bays that remain, the neighbours and choices of each, and k. All is blank at a bay that does not remain, and only
 // what remains is a neighbour: nothing tells a picker of the bays that were passed.
 #[derive(Clone, Copy)]
 pub struct Question {
     pub(crate) remaining: u32,
+
+    // Two arrays and not one of pairs: both are handed over as arrays, and the sets are read as twenty-four masks.
     pub(crate) neighbours: [u32; 24],
     pub(crate) choices: [u8; 24],
     pub(crate) k: i8,
@@ -35,16 +38,10 @@ impl Question {
         ensures is { result ≡ asked remaining neighbours choices k }
         ensures canonical { Canonical result }
     {
-        let mut near = neighbours;
-        let mut tries = choices;
-        for bay in 0..24 {
-            near[bay as usize] = seen_at(remaining, near[bay as usize], bay);
-            tries[bay as usize] = kept_at(remaining, tries[bay as usize], bay);
-        }
         Question {
             remaining,
-            neighbours: near,
-            choices: tries,
+            neighbours: array::from_fn(|bay| seen_at(remaining, neighbours[bay], bay as u8)),
+            choices: array::from_fn(|bay| kept_at(remaining, choices[bay], bay as u8)),
             k,
         }
     }
@@ -66,12 +63,7 @@ impl Question {
     pub fn choices(&self, bay: u8) -> u8
         ensures { result ≡ slice_index self.now.choices bay }
     {
-        let counts = &self.choices[..];
-        if (bay as usize) < counts.len() {
-            counts[bay as usize]
-        } else {
-            0
-        }
+        self.choices.get(usize::from(bay)).copied().unwrap_or(0)
     }
 
     pub fn k(&self) -> i8

@@ -3,6 +3,7 @@
 
 pub mod amount;
 pub mod cents;
+pub mod counted;
 pub mod price;
 pub mod stored;
 pub mod upto;

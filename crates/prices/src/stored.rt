@@ -5,10 +5,9 @@ ghost use Rattle.prices.specs.Cells.{CellLaws};
 ghost use Rattle.prices.specs.Kept.{capped_order};
 ghost use Rattle.std.proofs.Common.{rules};
 
-use crate::cents::Cents;
+use crate::counted::Counted;
 use crate::price::Price;
 use crate::upto::Upto;
-use crate::waits::Waits;
 
 pub trait Stored: Price {
     // The mark as a number of three bytes, the high byte first.
@@ -34,54 +33,31 @@ pub trait Stored: Price {
     ghost stored: { CellLaws Self.Price.ops top cell };
 }
 
-impl Stored for Cents {
-    ghost letters = { 0x435453 };
+impl<const TOP: u32> Stored for Upto<TOP>
+where
+    Upto<TOP>: Counted,
+{
+    ghost letters = { ⟦<Upto<TOP> as Counted>⟧.letters };
 
-    ghost top = { 1000000000 };
+    ghost top = { TOP };
 
-    ghost cell = { capped_at 1000000000 };
+    ghost cell = { capped_at TOP };
 
-    ghost three = { Prim.search rules };
-
-    ghost four = { Prim.search rules };
-
-    ghost stored = { record { lowest = refl; highest = refl; ordered = capped_order 1000000000 } };
-
-    fn mark() -> u32 {
-        u32::from_be_bytes([0, b'C', b'T', b'S'])
-    }
-
-    fn limit() -> u32 {
-        1_000_000_000
-    }
-
-    fn from_cell(number: u32) -> Cents {
-        Upto::capped(number)
-    }
-}
-
-impl Stored for Waits {
-    ghost letters = { 0x4D494E };
-
-    ghost top = { 1441 };
-
-    ghost cell = { capped_at 1441 };
-
-    ghost three = { Prim.search rules };
+    ghost three = { ⟦<Upto<TOP> as Counted>⟧.three };
 
     ghost four = { Prim.search rules };
 
-    ghost stored = { record { lowest = refl; highest = refl; ordered = capped_order 1441 } };
+    ghost stored = { record { lowest = refl; highest = refl; ordered = capped_order TOP } };
 
     fn mark() -> u32 {
-        u32::from_be_bytes([0, b'M', b'I', b'N'])
+        <Self as Counted>::mark()
     }
 
     fn limit() -> u32 {
-        1441
+        TOP
     }
 
-    fn from_cell(number: u32) -> Waits {
+    fn from_cell(number: u32) -> Upto<TOP> {
         Upto::capped(number)
     }
 }

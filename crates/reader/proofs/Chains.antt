@@ -1,5 +1,5 @@
 -- A run of pieces, of which some are read.
-use Rattle.std.proofs.Common.{◌≡◌, ℕ, suc, ◌+◌, ◌-◌, ◌<◌, List, [], ◌∷◌, ◌++◌, sym, refl, ap, append_assoc, add-one, arith}
+use Rattle.std.proofs.Common.{◌≡◌, ℕ, suc, ◌+◌, ◌-◌, ◌<◌, ◌≤◌, List, [], ◌∷◌, ◌++◌, sym, refl, ap, append_assoc, append-nil, add-one, arith}
 use Rattle.refusals.specs.declared.Refusal.{Refusal}
 use Rattle.format.specs.Pieces.{Got, got, bad}
 use Rattle.format.specs.Steps.{chain, mapped}
@@ -30,6 +30,5 @@ module _ {S A : Type 0} (R : S → List ℕ → Got A) (next : S → A → S) wh
   pub after_bad : (xs : List A) (n i : ℕ) (s : S) (rest : List ℕ) (e : Refusal) → i < n → R s rest ≡ bad e → After xs (n - i) s rest ≡ bad e
   after_bad xs n i s rest e h q = rw (less_one n i h, q)
 
--- what is left of n pieces of one kind
-abbrev pub AfterTimes : {A : Type 0} → (List ℕ → Got A) → List A → ℕ → List ℕ → Got (List A)
-AfterTimes R xs n rest = After {S = ℕ} (λ _. R) (λ s _. s) xs n 0 rest
+  pub after_all : (xs : List A) (n i : ℕ) (s : S) (rest : List ℕ) → n ≤ i → After xs (n - i) s rest ≡ got xs rest
+  after_all xs n i s rest h = let z : n - i ≡ 0 = omega arith in rw z (ap (λ l. got l rest) (append-nil xs))

@@ -1,5 +1,6 @@
 pub mod Chains
 pub mod Fronts
+pub mod Noted
 pub mod Tables
-pub mod Steps
+pub mod Spans
 pub mod Walked

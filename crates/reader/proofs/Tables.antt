@@ -1,14 +1,8 @@
 -- How many cells the table of a rule has.
-use Rattle.std.proofs.Common.{◌≡◌, ℕ, ◌-◌, ◌*◌, ◌^◌, ◌<◌, ◌≤◌, List, [], ◌∷◌, length, get_or, take, drop, sym, ap, ◌∙◌, arith}
+use Rattle.std.proofs.Common.{◌≡◌, ℕ, ◌-◌, ◌*◌, ◌^◌, ◌<◌, ◌≤◌, List, [], ◌∷◌, length, take, drop, arith}
 use native.Mathlib.Nat.{pow-succ', pow-le-pow_right}
 use Rattle.std.proofs.lemmas.Nat.{mul-le}
 use Rattle.std.proofs.lemmas.List.{take_rest}
-use Rattle.std.proofs.lemmas.Slice.{first_rest}
-use Rattle.format.specs.House.{cells_in}
-
--- the size of a table by its first bay
-pub size_more : (counts scope : List ℕ) (a r : ℕ) → 0 < length scope → a ≡ get_or counts (get_or scope 0 0) 0 → r ≡ cells_in counts (take (length scope - 1) (drop 1 scope)) → a * r ≡ cells_in counts scope
-size_more counts scope a r h e f = (λ i. e i * f i) ∙ sym (ap (cells_in counts) (first_rest scope 0 h))
 
 pub size_bound : (scope : List ℕ) (a r : ℕ) → 0 < length scope → a ≤ 256 → r ≤ 256 ^ length (take (length scope - 1) (drop 1 scope)) → a * r ≤ 256 ^ length scope
 size_bound [] a r h k l = absurd (omega arith)

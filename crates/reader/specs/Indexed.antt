@@ -6,18 +6,16 @@ use Rattle.format.specs.Steps.{body_in}
 use Rattle.reader.specs.declared.places.Index.{Index}
 use Rattle.reader.specs.Places.{layout_at, choices_at, table_at, scope_at}
 
--- the layout that an index finds keeps the limits, and each row and each rule lies within the bytes
-pub record Found (bs : List ℕ) (i : Index) : Type 0 where
-  pub fits : FitsBody 4294967295 (layout_at bs i.bays i.rules i.own_at i.rule_at)
-  pub counts : 2 + i.bays ≤ length bs
-  pub rows : (j : ℕ) → j < i.bays → slice_index i.own_at j + 4 * slice_index (choices_at bs i.bays) j ≤ length bs
-  pub tables : (r : ℕ) → r < i.rules → table_at bs (slice_index i.rule_at r) + 4 * cells_in (choices_at bs i.bays) (scope_at bs (slice_index i.rule_at r)) ≤ length bs
-  pub long_own : length i.own_at ≡ 24
-  pub long_rule : length i.rule_at ≡ 64
-
 -- the layout that an index finds in what follows mark and version
 abbrev pub layout_by : List ℕ → Index → Layout
-layout_by bs i = layout_at bs i.bays i.rules i.own_at i.rule_at
+layout_by bs i = layout_at bs i.own_at.items i.rule_at.items
+
+-- the layout that an index finds keeps the limits, and each row and each rule lies within the bytes
+pub record Found (bs : List ℕ) (i : Index) : Type 0 where
+  pub fits : FitsBody 4294967295 (layout_by bs i)
+  pub counts : 2 + length i.own_at.items ≤ length bs
+  pub rows : (j : ℕ) → j < length i.own_at.items → slice_index i.own_at.items j + 4 * slice_index (choices_at bs (length i.own_at.items)) j ≤ length bs
+  pub tables : (r : ℕ) → r < length i.rule_at.items → table_at bs (slice_index i.rule_at.items r) + 4 * cells_in (choices_at bs (length i.own_at.items)) (scope_at bs (slice_index i.rule_at.items r)) ≤ length bs
 
 -- the index finds what follows mark and version
 pub record Walked (top : ℕ) (bs : List ℕ) (i : Index) : Type 0 where

@@ -1,5 +1,5 @@
 -- A layout that is left in its bytes, by the places of its rows and rules.
-use Rattle.std.specs.Prelude.{ℕ, ◌+◌, ◌*◌, List, map, take, drop, slice_index}
+use Rattle.std.specs.Prelude.{ℕ, ◌+◌, ◌*◌, List, map, length, take, drop, slice_index}
 use Rattle.std.specs.List.{range_with_len}
 use Rattle.format.specs.Pieces.{number}
 use Rattle.format.specs.House.{cells_in, Rule, Layout}
@@ -33,5 +33,7 @@ rows_at bs cs own n = map (λ i. cells_at bs (slice_index own i) (slice_index cs
 abbrev pub rules_at : List ℕ → List ℕ → List ℕ → ℕ → List Rule
 rules_at bs cs rule n = map (λ r. rule_at bs cs (slice_index rule r)) (range_with_len 0 n)
 
-abbrev pub layout_at : List ℕ → ℕ → ℕ → List ℕ → List ℕ → Layout
-layout_at bs bays rules own rule = record { own = rows_at bs (choices_at bs bays) own bays; rules = rules_at bs (choices_at bs bays) rule rules }
+abbrev pub layout_at : List ℕ → List ℕ → List ℕ → Layout
+layout_at bs own rule =
+    let cs = choices_at bs (length own) in
+    record { own = rows_at bs cs own (length own); rules = rules_at bs cs rule (length rule) }

@@ -1,6 +1,7 @@
 // The checked walk over the bytes of a book.
 #![tactic(auto)]
 
+mod counts;
 mod pieces;
 mod places;
 mod walk;

@@ -1,8 +1,8 @@
 // Where the rows of own prices and the rules of a book begin, counted from the byte after the version.
-#[derive(Clone, Copy)]
+use arrayvec::ArrayVec;
+
+#[derive(Drop)]
 pub struct Index {
-    pub bays: usize,
-    pub rules: usize,
-    pub own_at: [usize; 24],
-    pub rule_at: [usize; 64],
+    pub own_at: ArrayVec<usize, 24>,
+    pub rule_at: ArrayVec<usize, 64>,
 }

@@ -1,33 +1,82 @@
 // Walking over a whole book.
-ghost use Rattle.std.specs.Prelude.{◌≡◌, drop, MatchResult};
+ghost use Rattle.std.specs.Prelude.{◌≡◌, ◌<◌, ◌≤◌, [], length, drop, MatchResult};
+ghost use Rattle.refusals.specs.declared.Refusal.TheVariants.{CutBook};
 ghost use Rattle.format.specs.Pieces.{bad};
 ghost use Rattle.format.specs.House.{book_in, ended, FitsBook, book_bytes, Refused};
-ghost use Rattle.format.specs.Steps.{body_in};
+ghost use Rattle.format.specs.Steps.{times, rule_in, prices_in, body_in};
+ghost use Rattle.reader.specs.Finds.{Ends, Rows, Rules};
 ghost use Rattle.reader.specs.Indexed.{Walked, Indexes, layout_by};
 
-use crate::pieces::{choices, ended_at, header, rows, rules, short_enough, sizes};
+use crate::counts::Counts;
+use crate::pieces::{cells, choices, counted, header, rule, short_enough};
 use crate::places::Index;
+use arrayvec::ArrayVec;
 use prices::stored::Stored;
 use refusals::Refusal;
+
+// The own prices of each bay: where each row begins, and the bytes after them. Rows and rules go over different things, the
+// counts and a number: one routine for both would be longer than the two.
+fn rows<'a>(
+    body: &[u8],
+    bytes: &'a [u8],
+    counts: Counts,
+    top: u32,
+) -> Result<(ArrayVec<usize, 24>, &'a [u8]), Refusal>
+    requires { Ends body.now bytes.now }
+    ensures { MatchResult result (λ p. Rows top body.now counts.entry.bytes.now bytes.now p.0.items p.1.now) (λ e. prices_in top counts.entry.bytes.now bytes.now ≡ bad e) }
+{
+    let mut own_at = ArrayVec::new();
+    let mut rest = bytes;
+    for n in counts.bytes {
+        own_at.push(body.len() - rest.len());
+        rest = cells(rest, usize::from(*n), top)?;
+    }
+    Ok((own_at, rest))
+}
+
+// n rules: where each begins, and the bytes after them.
+fn rules<'a>(
+    body: &[u8],
+    bytes: &'a [u8],
+    n: usize,
+    counts: Counts,
+    top: u32,
+) -> Result<(ArrayVec<usize, 64>, &'a [u8]), Refusal>
+    requires ends { Ends body.now bytes.now }
+    requires few { n ≤ 64 }
+    ensures { MatchResult result (λ p. Rules top body.now counts.entry.bytes.now bytes.now n p.0.items p.1.now) (λ e. times n (rule_in top counts.entry.bytes.now) bytes.now ≡ bad e) }
+{
+    let mut rule_at = ArrayVec::new();
+    let mut rest = bytes;
+    for _i in 0..n {
+        rule_at.push(body.len() - rest.len());
+        rest = rule(rest, counts, top)?;
+    }
+    Ok((rule_at, rest))
+}
+
+// No byte may stand after the end of a book.
+fn all_read(rest: &[u8]) -> Result<(), Refusal>
+    ensures { MatchResult result (λ _. rest.now ≡ []) (λ e. (0 < length rest.now) × (e ≡ CutBook)) }
+{
+    if !rest.is_empty() {
+        return Err(Refusal::CutBook);
+    }
+    Ok(())
+}
 
 // Walks over what follows mark and version, and writes down where each row and each rule begins.
 fn walk(body: &[u8], top: u32) -> Result<Index, Refusal>
     ensures { MatchResult result (λ i. Walked top body.now i) (λ e. ended (body_in top body.now) ≡ bad e) }
 {
-    let (few, many) = sizes(body)?;
-    let bays = usize::from(few);
-    let n = usize::from(many);
-    let at = choices(body, 2, bays)?;
-    let counts = &body[2..at];
-    let (own_at, at) = rows(body, at, counts, top)?;
-    let (rule_at, end) = rules(body, at, n, counts, top)?;
-    ended_at(body, end)?;
-    Ok(Index {
-        bays,
-        rules: n,
-        own_at,
-        rule_at,
-    })
+    let (bays, rest) = counted(body, 1, 24)?;
+    let (n, rest) = counted(rest, 0, 64)?;
+    let (counts, rest) = choices(rest, usize::from(bays))?;
+    let counts = Counts { bytes: counts };
+    let (own_at, rest) = rows(body, rest, counts, top)?;
+    let (rule_at, rest) = rules(body, rest, usize::from(n), counts, top)?;
+    all_read(rest)?;
+    Ok(Index { own_at, rule_at })
 }
 
 // An index of the bytes, where the layout's reading accepts them.

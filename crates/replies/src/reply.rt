@@ -1,71 +1,100 @@
 // The answer to a command line over a book.
 ghost use Rattle.std.specs.Prelude.{◌≡◌, length, IfOk, vec_len, string_bytes};
-ghost use Rattle.replies.specs.Answers.{course_answer, plan_answer, answer_text, Answered};
+ghost use Rattle.replies.specs.Answers.{course_by, course_answer, plan_by, plan_answer, answer_text, Answered};
 
-use crate::text::{course_text, planned_text, refusal_text};
+use crate::text::Reply;
 use books::book::Book;
 use commands::Command;
 use course::course::course;
 use course::line::Line;
 use pickers::order::Order;
+use pickers::picker::Picker;
 use prices::cents::Cents;
 use prices::price::Price;
+use prices::upto::Upto;
 use refusals::Refusal;
 use search::plan::plan;
 use std::alloc::{AllocError, Global};
 
-// Room for the lines of any book.
-fn blank_lines() -> [Line; 24]
-    ensures { length result ≡ 24 }
+// The course of a book by a picker, in the lines that are lent.
+pub fn course_by<B: Book, K: Picker>(
+    heap: Global,
+    book: &B,
+    picker: &K,
+    k: i64,
+    cells: usize,
+    lines: &mut [Line],
+) -> Result<String, AllocError>
+    ensures { IfOk result (λ s. string_bytes s ≡ course_by (B.meaning book.now) (K.answer picker.now) k cells (length lines.old)) }
 {
-    [Line {
-        bay: 0,
-        choices: 0,
-        folded: false,
-    }; 24]
+    match course(book, picker, k, cells, lines) {
+        Ok(forecast) => {
+            let lines = &lines[0..book.bays()];
+            Reply::Course { lines, forecast }.to_string(heap)
+        }
+        Err(refusal) => refusal.to_string(heap),
+    }
 }
 
 // The course of the book by the order from 0 to 23.
 fn course_reply<B: Book>(heap: Global, book: &B, k: i64, cells: u32) -> Result<String, AllocError>
     ensures { IfOk result (λ s. string_bytes s ≡ course_answer (B.meaning book.now) k cells) }
 {
-    let mut lines = blank_lines();
-    match course(book, &Order::rising(), k, cells as usize, &mut lines) {
-        Ok(forecast) => course_text(heap, &lines[0..book.bays()], forecast),
-        Err(refusal) => refusal_text(heap, refusal),
-    }
+    let mut lines = [Line::default(); 24];
+    course_by(heap, book, &Order::rising(), k, cells as usize, &mut lines)
 }
 
 // So many cells of scratch.
-fn scratch_of(heap: Global, cells: u32) -> Result<Vec<Cents>, AllocError>
+fn scratch<P: Price>(heap: Global, cells: usize) -> Result<Vec<P>, AllocError>
     ensures { IfOk result (λ v. vec_len v ≡ cells) }
 {
-    vec![in heap; Cents::free(); cells as usize]
+    Ok(vec![in heap; P::free(); cells]?)
 }
 
-// The cheapest plan of the book by the order from 0 to 23, in so many cells.
+// What a plan is sought with: k, how many cells of scratch, the most visits, and the ceiling.
+#[derive(Clone, Copy)]
+pub struct Sought {
+    pub k: i64,
+    pub cells: usize,
+    pub limit: u32,
+    pub ceiling: u32,
+}
+
+// The cheapest plan of a book by a picker, in the plan bytes that are lent.
+pub fn plan_by<const TOP: u32, B: Book<Cost = Upto<TOP>>, K: Picker>(
+    heap: Global,
+    book: &B,
+    picker: &K,
+    sought: Sought,
+    bytes: &mut [u8],
+) -> Result<String, AllocError>
+where
+    Upto<TOP>: Price<Offer = u32>,
+    ensures { IfOk result (λ s. string_bytes s ≡ plan_by ⟦<Upto<TOP> as Price>⟧.ops (B.meaning book.now) (K.answer picker.now) sought (⟦<Upto<TOP> as Price>⟧.accepts sought.ceiling) bytes.old) }
+{
+    let mut scratch = scratch(heap, sought.cells)?;
+    let planned = plan(
+        book,
+        picker,
+        sought.k,
+        sought.limit,
+        sought.ceiling,
+        scratch.as_mut_slice(),
+        bytes,
+    );
+    let bays = book.bays().min(bytes.len());
+    Reply::planned(&bytes[0..bays], planned).to_string(heap)
+}
+
+// The cheapest plan of the book by the order from 0 to 23.
 pub fn plan_reply<B: Book<Cost = Cents>>(
     heap: Global,
     book: &B,
-    k: i64,
-    cells: u32,
-    limit: u32,
-    ceiling: u32,
+    sought: Sought,
 ) -> Result<String, AllocError>
-    ensures { IfOk result (λ s. string_bytes s ≡ plan_answer (B.meaning book.now) k cells limit ceiling) }
+    ensures { IfOk result (λ s. string_bytes s ≡ plan_answer (B.meaning book.now) sought) }
 {
-    let mut scratch = scratch_of(heap, cells)?;
-    let mut bytes = [0u8; 24];
-    let planned = plan(
-        book,
-        &Order::rising(),
-        k,
-        limit,
-        ceiling,
-        scratch.as_mut_slice(),
-        &mut bytes,
-    );
-    planned_text(heap, &bytes[0..book.bays()], planned)
+    plan_by(heap, book, &Order::rising(), sought, &mut [0; 24])
 }
 
 // A course is answered in full; the other commands are refused as unread until their calls are there.
@@ -74,7 +103,7 @@ fn answer<B: Book>(heap: Global, book: &B, command: Command) -> Result<String, A
 {
     match command {
         Command::Course { k, cells } => course_reply(heap, book, k, cells),
-        _ => refusal_text(heap, Refusal::UnreadLine),
+        _ => Refusal::UnreadLine.to_string(heap),
     }
 }
 
@@ -84,6 +113,6 @@ pub fn reply<B: Book>(heap: Global, book: &B, line: &[u8]) -> Result<String, All
 {
     match commands::parse(line) {
         Ok(command) => answer(heap, book, command),
-        Err(refusal) => refusal_text(heap, refusal),
+        Err(refusal) => refusal.to_string(heap),
     }
 }

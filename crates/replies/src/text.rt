@@ -1,100 +1,125 @@
-// The text of each kind of answer.
-ghost use Rattle.std.specs.Prelude.{◌≡◌, IfOk, string_bytes};
-ghost use Rattle.replies.specs.Texts.{refusal_text, course_text, line_text, lines_text, byte_text, bytes_text, plan_text, ended_text, planned_text};
+// The program's answers, and how each is printed.
+ghost use Rattle.std.specs.Prelude.{◌≡◌, ℕ, List, Some};
+ghost use Rattle.std.specs.Fmt.{WritesOnOk};
+ghost use Rattle.std.specs.List.{flat_map};
+ghost use Rattle.replies.specs.Texts.{line_text, byte_text, reply_text, planned_text};
 
 use course::line::Line;
-use prices::cents::Cents;
+use prices::upto::Upto;
 use refusals::Refusal;
 use search::answer::Planned;
-use std::alloc::{AllocError, Global};
+use std::fmt;
 
-// `refused` and the number.
-pub fn refusal_text(heap: Global, refusal: Refusal) -> Result<String, AllocError>
-    ensures { IfOk result (λ s. string_bytes s ≡ refusal_text refusal) }
-{
-    let number = refusal.number();
-    format!(in heap; "refused {number}")
+// What is told of one bay, after a space.
+trait Piece {
+    ghost text: { Self → List ℕ };
+
+    fn tell<W: fmt::Write>(&self, f: &mut fmt::Formatter<W>) -> fmt::Result
+        ensures { WritesOnOk W.write_str_gives f.old result (text self.now) f.new };
 }
 
-// A bay, and f where it is folded, b where it is branched, each after a space.
-fn line_text(heap: Global, line: Line) -> Result<String, AllocError>
-    ensures { IfOk result (λ s. string_bytes s ≡ line_text line) }
-{
-    let bay = line.bay;
-    if line.folded {
-        format!(in heap; " {bay} f")
-    } else {
-        format!(in heap; " {bay} b")
+// A bay, and f where it is folded, b where it is branched.
+impl Piece for Line {
+    ghost text = { line_text };
+
+    fn tell<W: fmt::Write>(&self, f: &mut fmt::Formatter<W>) -> fmt::Result {
+        let bay = self.bay;
+        if self.folded {
+            write!(f, " {bay} f")
+        } else {
+            write!(f, " {bay} b")
+        }
     }
 }
 
-// The lines of a course one after another.
-fn lines_text(heap: Global, lines: &[Line]) -> Result<String, AllocError>
-    ensures { IfOk result (λ s. string_bytes s ≡ lines_text lines.now) }
-{
-    let mut text = String::new(heap);
-    for line in lines {
-        let piece = line_text(heap, *line)?;
-        text.push_str(piece.as_str())?;
+// A choice.
+impl Piece for u8 {
+    ghost text = { byte_text };
+
+    fn tell<W: fmt::Write>(&self, f: &mut fmt::Formatter<W>) -> fmt::Result {
+        write!(f, " {self}")
     }
-    Ok(text)
 }
 
-// The bays of a course in passing order, and its forecast.
-pub fn course_text(heap: Global, lines: &[Line], forecast: u64) -> Result<String, AllocError>
-    ensures { IfOk result (λ s. string_bytes s ≡ course_text lines.now forecast) }
-{
-    let lines = lines_text(heap, lines)?;
-    format!(in heap; "course{lines} forecast {forecast}")
-}
+// One piece after another.
+#[derive(Drop)]
+struct Pieces<'a, P>(&'a [P]);
 
-// A number after a space.
-fn byte_text(heap: Global, byte: u8) -> Result<String, AllocError>
-    ensures { IfOk result (λ s. string_bytes s ≡ byte_text byte) }
-{
-    format!(in heap; " {byte}")
-}
+impl<P: Piece> fmt::Display for Pieces<'_, P> {
+    ghost output = { λ pieces. Some (flat_map P.text pieces.0.now) };
 
-// Bytes as numbers, each after a space.
-fn bytes_text(heap: Global, bytes: &[u8]) -> Result<String, AllocError>
-    ensures { IfOk result (λ s. string_bytes s ≡ bytes_text bytes.now) }
-{
-    let mut text = String::new(heap);
-    for byte in bytes {
-        let piece = byte_text(heap, *byte)?;
-        text.push_str(piece.as_str())?;
+    fn fmt<W: fmt::Write>(&self, f: &mut fmt::Formatter<W>) -> fmt::Result {
+        for piece in self.0 {
+            piece.tell(f)?;
+        }
+        Ok(())
     }
-    Ok(text)
 }
 
-// The choices of a plan bay by bay, its price and the visits that it took.
-pub fn plan_text(heap: Global, plan: &[u8], price: u32, visits: u32) -> Result<String, AllocError>
-    ensures { IfOk result (λ s. string_bytes s ≡ plan_text plan.now price visits) }
-{
-    let choices = bytes_text(heap, plan)?;
-    format!(in heap; "plan{choices} price {price} visits {visits}")
+#[derive(Clone, Copy)]
+pub enum Reply<'a> {
+    Refused(Refusal),
+    // The lines of a course in passing order, and its forecast.
+    Course {
+        lines: &'a [Line],
+        forecast: u64,
+    },
+    // The choices of a plan bay by bay, its price and the visits that it took.
+    Plan {
+        choices: &'a [u8],
+        price: u32,
+        visits: u32,
+    },
+    // A search that has no plan to tell, with its visits.
+    Ended {
+        refusal: Refusal,
+        visits: u32,
+    },
 }
 
-// A search that has no plan to tell, with its visits.
-pub fn ended_text(heap: Global, refusal: Refusal, visits: u32) -> Result<String, AllocError>
-    ensures { IfOk result (λ s. string_bytes s ≡ ended_text refusal visits) }
-{
-    let text = refusal_text(heap, refusal)?;
-    format!(in heap; "{text} visits {visits}")
+impl<'a> Reply<'a> {
+    // What a search answered; `choices` is what stands in its plan bytes, one for each bay.
+    pub fn planned<const TOP: u32>(choices: &'a [u8], planned: Planned<Upto<TOP>>) -> Reply<'a>
+        ensures { reply_text result ≡ planned_text choices.now planned.entry }
+    {
+        match planned {
+            Planned::Found { price, visits } => Reply::Plan {
+                choices,
+                price: price.number(),
+                visits,
+            },
+            Planned::NoPlan { visits } => Reply::Ended {
+                refusal: Refusal::NoPlan,
+                visits,
+            },
+            Planned::Stopped { visits } => Reply::Ended {
+                refusal: Refusal::Stopped,
+                visits,
+            },
+            Planned::Refused(refusal) => Reply::Refused(refusal),
+        }
+    }
 }
 
-// What a search answered; `plan` is what stands in its plan bytes, one for each bay.
-pub fn planned_text(
-    heap: Global,
-    plan: &[u8],
-    planned: Planned<Cents>,
-) -> Result<String, AllocError>
-    ensures { IfOk result (λ s. string_bytes s ≡ planned_text plan.now planned) }
-{
-    match planned {
-        Planned::Found { price, visits } => plan_text(heap, plan, price.number(), visits),
-        Planned::NoPlan { visits } => ended_text(heap, Refusal::NoPlan, visits),
-        Planned::Stopped { visits } => ended_text(heap, Refusal::Stopped, visits),
-        Planned::Refused(refusal) => refusal_text(heap, refusal),
+impl fmt::Display for Reply<'_> {
+    ghost output = { λ reply. Some (reply_text reply) };
+
+    fn fmt<W: fmt::Write>(&self, f: &mut fmt::Formatter<W>) -> fmt::Result {
+        match *self {
+            Reply::Refused(refusal) => write!(f, "{refusal}"),
+            Reply::Course { lines, forecast } => {
+                let lines = Pieces(lines);
+                write!(f, "course{lines} forecast {forecast}")
+            }
+            Reply::Plan {
+                choices,
+                price,
+                visits,
+            } => {
+                let choices = Pieces(choices);
+                write!(f, "plan{choices} price {price} visits {visits}")
+            }
+            Reply::Ended { refusal, visits } => write!(f, "{refusal} visits {visits}"),
+        }
     }
 }

@@ -8,9 +8,5 @@ use course::line::Line;
 pub(crate) fn blank() -> [Line; 24]
     ensures { result ≡ blank_lines }
 {
-    [Line {
-        bay: 0,
-        choices: 0,
-        folded: false,
-    }; 24]
+    [Line::default(); 24]
 }

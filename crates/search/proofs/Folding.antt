@@ -1,12 +1,13 @@
 -- A fold of the code is a fold of the model.
-use Rattle.std.proofs.Common.{◌≡◌, ℕ, ◌+◌, ◌-◌, ◌<◌, ◌≤◌, Bool, true, false, cond, not, ◌&&◌, eqb, ltb, List, [], ◌∷◌, ◌++◌, map, length, get_or, take, drop, ℤ, sym, refl, ap, ◌∙◌, ap₂, le_refl, arith, ltb-true, le-ltb, lt-ltb, eq-eqb}
+use Rattle.std.proofs.Common.{◌≡◌, ℕ, ◌+◌, ◌-◌, ◌<◌, ◌≤◌, Bool, true, false, cond, not, ◌&&◌, eqb, ltb, List, [], ◌∷◌, ◌++◌, map, length, get_or, take, drop, sym, refl, ap, ◌∙◌, ap₂, le_refl, arith, ltb-true, le-ltb, lt-ltb, eq-eqb}
 use mathlib.Core.Path.{fun_ext}
 use mathlib.Core.Bool.{false≢true}
-use Rattle.std.proofs.lemmas.Bool.{ne_eqb}
+use Rattle.std.proofs.lemmas.Bool.{and_parts, ne_eqb}
 use Rattle.std.proofs.lemmas.List.{map-append}
 use Rattle.model.proofs.Adjacent.{kept}
 use Rattle.model.proofs.Serves.{stand_append, stand_self, visit_same}
 use Rattle.model.proofs.Standing.{least_same, tabled, not_dropped}
+use Rattle.course.specs.declared.bound.Bound.{Bound}
 use Rattle.model.specs.Books.{Meaning}
 use Rattle.model.specs.Course.{Answers, drop_bay}
 use Rattle.model.specs.Lists.{member, any, product}
@@ -16,12 +17,12 @@ use Rattle.model.specs.Sets.{has}
 use Rattle.model.specs.Terms.{Plan, put, Term, Fold, least, cost, cost_stable, touching, others, folded, Legal, Completes}
 use Rattle.search.proofs.Deciding.{share_is}
 use Rattle.search.proofs.Folds.{terms_kept, folds_in, folds_kept}
-use Rattle.search.proofs.Kits.{clash, any_keep, both_left}
+use Rattle.search.proofs.Kits.{clash, any_keep}
 use Rattle.model.specs.Searched.{within}
 use Rattle.search.proofs.Members.{members_sound, members_complete, keep_members, map_members, keep_map, members_add}
 use Rattle.search.proofs.Readings.{block_read}
 use Rattle.search.proofs.Tables.{block_frame, term_frame, place_lt, decoded_here, decoded_there}
-use Rattle.search.specs.Force.{line_at, flag, scope_mask, block, table_value, raw, masked, term, terms_from, shares, trial}
+use Rattle.search.specs.Force.{Told, line_at, flag, scope_mask, block, table_value, raw, masked, term, terms_from, shares, trial}
 use Rattle.search.specs.Places.{place, place_stable, members, bays_from, byte_of, decoded, Open, PlanOk}
 use Rattle.search.specs.Visit.{setup_of, all_bays, folds_of, Tabled, Stack, Kept, is_near, after}
 use Rattle.search.specs.declared.state.Line.{Line}
@@ -69,9 +70,6 @@ module _ {P : Type 0} (K : Ops P) (m : Meaning P) (cs : List ℕ) (lines lines' 
       go true e = let r = tabled_ok i e (omega arith) in let l = r.0 in absurd (omega arith)
       go false e = refl
 
-  rest_terms : List (Term P)
-  rest_terms = map (term K m cs lines cells) (members (λ j. flag force j && not (has (scope_mask m lines j) b)) 0 112)
-
   others_is : others b (terms_from K m cs lines cells force 0) ≡ map (term K m cs lines cells) (members (λ j. flag force j && not (has (scope_mask m lines j) b)) 0 112)
   others_is = keep_map (λ (t : Term P). not (t.scope b)) (term K m cs lines cells) (members (flag force) 0 112) ∙ ap (map (term K m cs lines cells)) (keep_members (λ x. not (has (scope_mask m lines x) b)) (flag force) 0 112)
 
@@ -84,7 +82,7 @@ module _ {P : Type 0} (K : Ops P) (m : Meaning P) (cs : List ℕ) (lines lines' 
 
   kept_terms : map (term K m cs lines' cells') (members (λ j. flag force j && not (has (scope_mask m lines j) b)) 0 112) ≡ map (term K m cs lines cells) (members (λ j. flag force j && not (has (scope_mask m lines j) b)) 0 112)
   kept_terms = sym (map_members (term K m cs lines cells) (term K m cs lines' cells') _ 0 112 (λ j on l u. term_frame K m cs lines lines' cells cells' j (λ h.
-      let t = tabled_ok j (both_left (flag force j) (not (has (scope_mask m lines j) b)) on) h in
+      let t = tabled_ok j (and_parts (flag force j) (not (has (scope_mask m lines j) b)) on).0 h in
       (sym (older (j - 88) t.0), block_frame (line_at lines (j - 88)) used cells cells' (stack.tables (j - 88) t.0 t.1) (sym same)))))
 
   pub terms_after : terms_from K m cs lines' cells' after' 0 ≡ others b (terms_from K m cs lines cells force 0) ++ (term K m cs lines' cells' (88 + d) ∷ [])
@@ -94,19 +92,19 @@ module _ {P : Type 0} (K : Ops P) (m : Meaning P) (cs : List ℕ) (lines lines' 
 
   pub folds_after : folds_of K m cs lines' cells' (d + 1) ≡ record { bay = b; terms = terms_from K m cs lines cells force 0 } ∷ folds_of K m cs lines cells d
   folds_after =
-      folds_in K m cs lines' cells' d (ap (λ (l : Line). l.folded) line)
-      ∙ ap (λ (l : Line). record { bay = l.bay; terms = terms_from K m cs lines' cells' l.force 0 } ∷ folds_of K m cs lines' cells' d) line
+      folds_in K m cs lines' cells' d (ap (λ (l : Told). l.folded) line)
+      ∙ ap (λ (l : Told). record { bay = l.bay; terms = terms_from K m cs lines' cells' l.force 0 } ∷ folds_of K m cs lines' cells' d) line
       ∙ ap₂ (λ (ts : List (Term P)) (fs : List (Fold P)). record { bay = b; terms = ts } ∷ fs)
       (terms_kept K m cs lines lines' cells cells' d used stack older same force tabled_ok) (folds_kept K m cs lines lines' cells cells' d used stack older same d (le_refl d))
 
   the_table : term K m cs lines' cells' (88 + d) ≡ masked near (table_value K cs near (take size (drop used cells')))
-  the_table = term_table K m cs lines' cells' d ∙ ap (λ (l : Line). masked l.scope (table_value K cs l.scope (block cells' l))) line
+  the_table = term_table K m cs lines' cells' d ∙ ap (λ (l : Told). masked l.scope (table_value K cs l.scope (block cells' l))) line
 
   -- a bay of the neighbours is left
   near_left : (i : ℕ) → member i (bays_from near 0) ≡ true → (has remaining i ≡ true) × (i < 24)
   near_left i e =
       let s = members_sound (has near) i 0 24 e in
-      (both_left (has remaining i) _ (sym (nears i) ∙ s.0), omega (arith, s.2))
+      ((and_parts (has remaining i) _ (sym (nears i) ∙ s.0)).0, omega (arith, s.2))
 
   any_shares : (i : ℕ) → any (λ (t : Term P). t.scope i) (touching b (terms_from K m cs lines cells force 0)) ≡ shares m lines force b 0 i
   any_shares i = any_keep (λ (t : Term P). t.scope i) (λ (t : Term P). t.scope b) (terms_from K m cs lines cells force 0) ∙ share_is K m cs lines cells force b i
@@ -158,7 +156,7 @@ module _ {P : Type 0} (K : Ops P) (m : Meaning P) (cs : List ℕ) (lines lines' 
       agree c i e true h = refl
       agree c i e false h = same_at i e h (member i (bays_from remaining 0)) refl
 
-  pub fold_core : (pick : Answers) (k : ℤ) (limit n rest unused : ℕ) (s : Sofar P) → bays_from rest 0 ≡ drop_bay b (bays_from remaining 0)
+  pub fold_core : (pick : Answers) (k : Bound) (limit n rest unused : ℕ) (s : Sofar P) → bays_from rest 0 ≡ drop_bay b (bays_from remaining 0)
       → visit (setup_of K cs pick k limit) n (bays_from rest 0) (terms_from K m cs lines' cells' after' 0) unused (byte_of plan) (folds_of K m cs lines' cells' (d + 1)) s
       ≡ visit (setup_of K cs pick k limit) n (bays_from rest 0) (folded K (byte_of cs) b (terms_from K m cs lines cells force 0)) unused (byte_of plan) (record { bay = b; terms = terms_from K m cs lines cells force 0 } ∷ folds_of K m cs lines cells d) s
   fold_core pick k limit n rest unused s rests =

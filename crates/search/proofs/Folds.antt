@@ -5,7 +5,7 @@ use Rattle.model.specs.Prices.{Ops}
 use Rattle.model.specs.Terms.{Term, Fold}
 use Rattle.search.proofs.Members.{map_members}
 use Rattle.search.proofs.Tables.{block_frame, term_frame}
-use Rattle.search.specs.Force.{line_at, flag, term, terms_from}
+use Rattle.search.specs.Force.{Told, line_at, flag, term, terms_from}
 use Rattle.search.specs.Visit.{folds_of, Tabled, Stack, Kept}
 use Rattle.search.specs.declared.state.Line.{Line}
 
@@ -31,7 +31,7 @@ module _ {P : Type 0} (K : Ops P) (m : Meaning P) (cs : List ℕ) (lines lines' 
   pub folds_kept : (e : ℕ) → e ≤ d → folds_of K m cs lines' cells' e ≡ folds_of K m cs lines cells e
   unfolding folds_of
   folds_kept zero h = refl
-  folds_kept (suc e) h = ap (λ (l : Line). cond l.folded (record { bay = l.bay; terms = terms_from K m cs lines' cells' l.force 0 } ∷ folds_of K m cs lines' cells' e) (folds_of K m cs lines' cells' e)) (kept e (omega arith))
+  folds_kept (suc e) h = ap (λ (l : Told). cond l.folded (record { bay = l.bay; terms = terms_from K m cs lines' cells' l.force 0 } ∷ folds_of K m cs lines' cells' e) (folds_of K m cs lines' cells' e)) (kept e (omega arith))
       ∙ ap (λ (fs : List (Fold P)). cond (line_at lines e).folded (record { bay = (line_at lines e).bay; terms = terms_from K m cs lines' cells' (line_at lines e).force 0 } ∷ fs) fs) (folds_kept e (omega arith))
       ∙ go (line_at lines e).folded refl
     where

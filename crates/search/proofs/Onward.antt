@@ -1,5 +1,6 @@
 -- How a visit of the model goes on.
-use Rattle.std.proofs.Common.{◌≡◌, ℕ, zero, suc, ◌-◌, ◌<◌, ◌≤◌, Bool, true, false, ◌||◌, eqb, List, [], ◌∷◌, length, sym, refl, ap, ◌∙◌, ap₂, arith, eq-eqb}
+use Rattle.std.proofs.Common.{◌≡◌, ℕ, zero, suc, ◌+◌, ◌-◌, ◌<◌, ◌≤◌, Bool, true, false, ◌||◌, eqb, List, [], ◌∷◌, length, sym, refl, ap, ◌∙◌, ap₂, arith, add-one, eq-eqb}
+use native.Mathlib.Decide.{dec_lt}
 use Rattle.std.proofs.lemmas.Bool.{ne_eqb}
 use Rattle.model.specs.Course.{Step, decide}
 use Rattle.model.specs.Search.{Setup, Sofar, halted, counted, arrived, gate, enter, each, share, visit}
@@ -60,6 +61,13 @@ pub onward_is : {P : Type 0} (S : Setup P) (n : ℕ) (left : List ℕ) (ts : Lis
 onward_is S n [] ts unused σ folds s d l h = absurd (omega arith)
 onward_is S n (r ∷ rs) ts unused σ folds s d l h = ap (λ (x : Step). passed S n (r ∷ rs) ts unused σ folds x x.fold s) (h r rs refl)
 
-pub each_more : {A : Type 0} (n : ℕ) (f : ℕ → A → A) (s : A) → 0 < n → each n f s ≡ f (n - 1) (each (n - 1) f s)
-each_more zero f s h = absurd (omega arith)
-each_more (suc n) f s h = let z : suc n - 1 ≡ n = omega arith in rw z refl
+pub each_next : {A : Type 0} (n : ℕ) (f : ℕ → A → A) (s : A) → each (n + 1) f s ≡ f n (each n f s)
+each_next n f s = rw add-one refl
+
+-- where one choice ends in a stop, the later ones change nothing
+pub each_still : {A : Type 0} (f : ℕ → A → A) (s : A) (stopped : A → Bool) (idle : (x : ℕ) (y : A) → stopped y ≡ true → f x y ≡ y) (m n : ℕ) → m ≤ n → stopped (each m f s) ≡ true → each n f s ≡ each m f s
+each_still f s stopped idle m zero h e = let z : m ≡ 0 = omega arith in sym (ap (λ (x : ℕ). each x f s) z)
+each_still f s stopped idle m (suc n) h e = elim (dec_lt n m) [
+  | yes lt ↦ (let z : m ≡ suc n = omega arith in sym (ap (λ (x : ℕ). each x f s) z))
+  | no ge ↦ (let r = each_still f s stopped idle m n (omega arith) e in idle n (each n f s) (ap stopped r ∙ e) ∙ r)
+]

@@ -3,7 +3,7 @@ use Rattle.std.proofs.Common.{◌≡◌, ℕ, ◌<◌, ◌≤◌, Bool, true, fa
 use mathlib.Core.Option.{Option, none, some}
 use lib.Signed.{le_z}
 use Rattle.std.proofs.lemmas.List.{get_or_default}
-use Rattle.std.proofs.lemmas.Bool.{lt-ltb, ltb-false, not-true}
+use Rattle.std.proofs.lemmas.Bool.{and_parts, lt-ltb, ltb-false, not-true}
 use Rattle.course.specs.Views.{answers_of}
 use Rattle.model.specs.Books.{Meaning, BookLaws, planned}
 use Rattle.model.specs.Course.{course_in, forecast}
@@ -19,7 +19,7 @@ use Rattle.search.specs.Promise.{Taken, Cheapest, Promise}
 use Rattle.search.specs.Start.{by_plan, outcome_of, bytes_by, bytes_of, allowed, by_offer, bytes_by_offer, reply, bytes_after}
 use Rattle.search.specs.declared.answer.Planned.{Planned}
 use Rattle.search.specs.declared.answer.Planned.TheVariants.{Stopped, Refused}
-use Rattle.search.proofs.Kits.{clash, both_right}
+use Rattle.search.proofs.Kits.{clash}
 
 module _ {P : Type 0} (o : Ops P) (L : PriceLaws o) (m : Meaning P) (laws : BookLaws o m) where
   -- bytes that begin with the choices of a plan have its price
@@ -48,7 +48,7 @@ module _ {P : Type 0} (o : Ops P) (L : PriceLaws o) (m : Meaning P) (laws : Book
         subst (Promise o m (allowed m k limit (length old)) offered (forecast (course_in m (answers_of pick) k cells)) limit bytes) (sym is) (go (allowed m k limit (length old)) refl offered refl at)
       where
         roomy : allowed m k limit (length old) ≡ true → m.bays ≤ length bytes
-        roomy e = omega (arith, room, ltb-false (length old) m.bays (not-true (ltb (length old) m.bays) (both_right (ltb 0 limit) (not (ltb (length old) m.bays)) (both_right (le_z (negsuc 0) k && le_z k (pos 4)) _ e))))
+        roomy e = omega (arith, room, ltb-false (length old) m.bays (not-true (ltb (length old) m.bays) (and_parts (ltb 0 limit) (not (ltb (length old) m.bays)) (and_parts (le_z (negsuc 0) k && le_z k (pos 4)) _ e).1).1))
 
         ended : (c : P) → Taken (allowed m k limit (length old)) offered c → (s : Sofar P) → KeptPromise o m (forecast (course_in m (answers_of pick) k cells)) limit c s
             → (t : Bool) → s.stopped ≡ t → (p : Option Plan) → s.plan ≡ p → ((i : ℕ) → get_or bytes i 0 ≡ cond t (get_or old i 0) (bytes_by p m.bays old i))

@@ -1,7 +1,7 @@
 -- What the code reads of a term.
-use Rattle.std.proofs.Common.{◌≡◌, ℕ, ◌+◌, ◌-◌, ◌^◌, ◌<◌, ◌≤◌, Bool, true, false, cond, ltb, List, length, get_or, take, drop, sym, refl, ap, ◌∙◌, arith, length-take, le-ltb, lt-ltb}
+use Rattle.std.proofs.Common.{◌≡◌, ℕ, ◌+◌, ◌-◌, ◌^◌, ◌<◌, ◌≤◌, Bool, true, false, cond, ltb, List, length, get_or, take, drop, sym, refl, ap, ◌∙◌, arith, le-ltb, lt-ltb}
 use mathlib.Core.Bool.{false≢true}
-use Rattle.std.proofs.lemmas.List.{get_or_past, get_or_default, get_or-take, get_or-drop}
+use Rattle.std.proofs.lemmas.List.{get_or_default, get_or-take, get_or-drop}
 use Rattle.model.proofs.Costs.{begins_from, rule_at}
 use Rattle.model.specs.Searched.{within}
 use Rattle.model.proofs.Bits.{bit_one_same}
@@ -9,18 +9,18 @@ use Rattle.model.specs.Books.{Meaning, BookLaws, planned}
 use Rattle.model.specs.Prices.{Ops}
 use Rattle.model.specs.Sets.{has}
 use Rattle.search.proofs.Members.{members_sound}
-use Rattle.search.specs.Force.{line_at, scope_mask, block, raw, term, Fits}
+use Rattle.model.specs.Terms.{Plan}
+use Rattle.search.specs.Force.{scope_of, offset_of, size_of, line_at, scope_mask, block, raw, term, Fits}
 use Rattle.search.specs.Places.{place, place_stable, bays_from, byte_of, PlanOk}
 use Rattle.search.specs.declared.state.Line.{Line}
+use Rattle.search.specs.declared.state.Passed.{Passed}
 
 pub block_read : {P : Type 0} (s o a : ℕ) (xs : List P) (d : P) → a < s → get_or (take s (drop o xs)) a d ≡ get_or xs (o + a) d
 block_read s o a xs d h = get_or-take s (drop o xs) a d h ∙ get_or-drop o xs a d
 
-pub block_past : {P : Type 0} (s o a : ℕ) (xs : List P) (d : P) → s ≤ a → get_or (take s (drop o xs)) a d ≡ d
-block_past s o a xs d h = get_or_past (take s (drop o xs)) a d (omega (arith, length-take s (drop o xs)))
-
-pub block_beyond : {P : Type 0} (s o a : ℕ) (xs : List P) (d : P) → a < s → length xs ≤ o + a → get_or (take s (drop o xs)) a d ≡ d
-block_beyond s o a xs d h l = block_read s o a xs d h ∙ get_or_past xs (o + a) d l
+-- the price that a line's table gives a plan
+abbrev pub table_price : {P : Type 0} → Ops P → List ℕ → List P → Plan → Passed → P
+table_price K cs cells π p = get_or (take (size_of p) (drop (offset_of p) cells)) (place (byte_of cs) 0 (bays_from (scope_of p) 0) π) K.forbidden
 
 module _ {P : Type 0} (K : Ops P) (m : Meaning P) (laws : BookLaws K m) (cs : List ℕ) (fits : Fits m cs) where
   pub open_bay : (i : ℕ) → i < m.bays → 0 < get_or cs i 0

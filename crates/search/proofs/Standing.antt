@@ -1,7 +1,7 @@
 -- The state's facts, as lines and cells change.
-use Rattle.std.proofs.Common.{◌≡◌, ℕ, ◌+◌, ◌-◌, ◌^◌, ◌<◌, ◌≤◌, Bool, true, false, not, eqb, ◌≢◌, List, [], ◌∷◌, length, get_or, set, pos, sym, refl, ap, ◌∙◌, subst, arith, eqb-true}
+use Rattle.std.proofs.Common.{◌≡◌, ℕ, ◌+◌, ◌-◌, ◌^◌, ◌<◌, ◌≤◌, Bool, true, false, not, ◌≢◌, List, [], ◌∷◌, length, get_or, set, sym, refl, ap, ◌∙◌, subst, arith}
+use Rattle.std.proofs.lemmas.Bool.{and_parts}
 use native.Mathlib.Decide.{dec_lt}
-use borrow.Author.Tests.{eqb-false}
 use Rattle.std.proofs.lemmas.List.{get_or-set_same, get_or-set_other}
 use Rattle.model.proofs.Bits.{has_minus, has_none, some_bay, minus_small}
 use Rattle.model.proofs.Listed.{drop_fewer}
@@ -10,13 +10,12 @@ use Rattle.model.specs.Books.{Meaning}
 use Rattle.model.specs.Course.{drop_bay}
 use Rattle.model.specs.Lists.{member, product}
 use Rattle.model.specs.Sets.{has, one, minus}
-use Rattle.search.proofs.Kits.{clash, both_left}
+use Rattle.search.proofs.Kits.{clash}
 use Rattle.course.proofs.Bayed.{bays_member, drop_is}
-use lib.Signed.{le_z}
 use lib.Count.{count_trailing_zeros}
 use Rattle.search.proofs.Members.{members_sound, bays_same}
 use Rattle.search.proofs.Sizes.{size_step}
-use Rattle.search.specs.Force.{no_line, line_at, Fits, LineOk, Sound}
+use Rattle.search.specs.Force.{Told, told, no_line, line_at, Fits}
 use Rattle.search.specs.Places.{bays_from, byte_of, Open, Few}
 use Rattle.search.specs.Visit.{ChoicesOk, Tabled, Stack, State, Kept}
 use Rattle.search.specs.declared.state.Line.{Line}
@@ -28,7 +27,7 @@ module _ (remaining b rest : ℕ) (is : rest ≡ minus remaining (one b)) where
   rest_list = ap (λ (x : ℕ). bays_from x 0) is ∙ bays_same (minus remaining (one b)) ∙ sym (drop_is remaining b) ∙ ap (drop_bay b) (sym (bays_same remaining))
 
   pub rest_open : (cs : List ℕ) → Open cs remaining → Open cs rest
-  rest_open cs o i e = o i (both_left (has remaining i) (not (has (one b) i)) (sym (ap (λ (x : ℕ). has x i) is ∙ has_minus remaining (one b) i) ∙ e))
+  rest_open cs o i e = o i (and_parts (has remaining i) (not (has (one b) i)) (sym (ap (λ (x : ℕ). has x i) is ∙ has_minus remaining (one b) i) ∙ e)).0
 
   pub rest_small : remaining < 2 ^ 24 → rest < 2 ^ 24
   rest_small h = subst (λ (x : ℕ). x < 2 ^ 24) (sym is) (minus_small 24 remaining (one b) h)
@@ -44,10 +43,10 @@ some_bays m some small = filled (bays_from m 0) (count_trailing_zeros 24 m) (ap 
     filled (y ∷ ys) x e = omega arith
 
 pub set_kept : (lines : List Line) (d : ℕ) (x : Line) → Kept lines (set lines d x) d
-set_kept lines d x e h = let ne : e ≢ d = omega arith in get_or-set_other lines d e x no_line ne
+set_kept lines d x e h = let ne : e ≢ d = omega arith in ap told (get_or-set_other lines d e x no_line ne)
 
-pub set_at : (lines : List Line) (d : ℕ) (x : Line) → d < length lines → line_at (set lines d x) d ≡ x
-set_at lines d x h = get_or-set_same lines d x no_line h
+pub set_at : (lines : List Line) (d : ℕ) (x : Line) → d < length lines → line_at (set lines d x) d ≡ told x
+set_at lines d x h = ap told (get_or-set_same lines d x no_line h)
 
 pub kept_trans : (l₁ l₂ l₃ : List Line) (d : ℕ) → Kept l₁ l₂ d → Kept l₂ l₃ d → Kept l₁ l₃ d
 kept_trans l₁ l₂ l₃ d p q e h = q e h ∙ p e h
@@ -55,21 +54,14 @@ kept_trans l₁ l₂ l₃ d p q e h = q e h ∙ p e h
 pub kept_less : (l₁ l₂ : List Line) (d d' : ℕ) → d' ≤ d → Kept l₁ l₂ d → Kept l₁ l₂ d'
 kept_less l₁ l₂ d d' k p e h = p e (omega arith)
 
-pub sound_set : (cs : List ℕ) (lines : List Line) (d : ℕ) (x : Line) → d < length lines → Sound cs lines → LineOk cs x → Sound cs (set lines d x)
-sound_set cs lines d x h s ok e l = go (eqb e d) refl
-  where
-    go : (t : Bool) → eqb e d ≡ t → LineOk cs (line_at (set lines d x) e)
-    go true q = let z = eqb-true e d q in subst (LineOk cs) (sym (ap (line_at (set lines d x)) z ∙ set_at lines d x h)) ok
-    go false q = subst (LineOk cs) (sym (get_or-set_other lines d e x no_line (eqb-false e d q))) (s e l)
-
 pub tabled_kept : (lines lines' : List Line) (d : ℕ) (force : List Bool) → Kept lines lines' d → Tabled lines d force → Tabled lines' d force
-tabled_kept lines lines' d force k t j on h = let r = t j on h in (r.0, ap (λ (l : Line). l.folded) (k (j - 88) r.0) ∙ r.1)
+tabled_kept lines lines' d force k t j on h = let r = t j on h in (r.0, ap (λ (l : Told). l.folded) (k (j - 88) r.0) ∙ r.1)
 
 pub stack_kept : (cs : List ℕ) (lines lines' : List Line) (d used : ℕ) → Kept lines lines' d → Stack cs lines d used → Stack cs lines' d used
 stack_kept cs lines lines' d used k s = record {
-  tables = λ e h f. let q = k e h in rw q (s.tables e h (sym (ap (λ (l : Line). l.folded) q) ∙ f));
-  forces = λ e h f. let q = k e h in rw q (tabled_kept lines lines' d (line_at lines e).force k (s.forces e h (sym (ap (λ (l : Line). l.folded) q) ∙ f)));
-  bays = λ e h f. let q = k e h in rw q (s.bays e h (sym (ap (λ (l : Line). l.folded) q) ∙ f));
+  tables = λ e h f. let q = k e h in subst (λ (l : Told). l.offset + l.size ≤ used) (sym q) (s.tables e h (sym (ap (λ (l : Told). l.folded) q) ∙ f));
+  forces = λ e h f. let q = k e h in subst (λ (l : Told). Tabled lines' d l.force) (sym q) (tabled_kept lines lines' d (line_at lines e).force k (s.forces e h (sym (ap (λ (l : Told). l.folded) q) ∙ f)));
+  bays = λ e h f. let q = k e h in subst (λ (l : Told). (l.bay < 24) × (0 < get_or cs l.bay 0)) (sym q) (s.bays e h (sym (ap (λ (l : Told). l.folded) q) ∙ f));
 }
 
 pub tabled_up : (lines : List Line) (d : ℕ) (force : List Bool) → Tabled lines d force → Tabled lines (d + 1) force
@@ -85,16 +77,15 @@ stack_up cs lines d used u s = record {
   bays = λ e h f. newest_or e d h (λ z. clash f (ap (λ (x : ℕ). (line_at lines x).folded) z ∙ u)) (λ lt. s.bays e lt f);
 }
 
-pub make_state : {P : Type 0} (m : Meaning P) (p : Search P) (cs : List ℕ) (d rest : ℕ) (force : List Bool) (used total : ℕ) → p.choices ≡ cs → Fits m cs → Sound cs p.lines → Few cs → ChoicesOk cs p.lines d → Open cs rest → rest < 2 ^ 24
-    → p.depth + length (bays_from rest 0) ≤ 24 → le_z p.k (pos 4) ≡ true → used ≤ total → Tabled p.lines d force → Stack cs p.lines d used → State m p d rest force used total
-make_state m p cs d rest force used total e fits sound few legal opened small deep short room tabled stack = record {
-  ready = record { fits = subst (Fits m) (sym e) fits; sound = subst (λ (c : List ℕ). Sound c p.lines) (sym e) sound };
+pub make_state : {P : Type 0} (m : Meaning P) (p : Search P) (cs : List ℕ) (d rest : ℕ) (force : List Bool) (used total : ℕ) → p.choices ≡ cs → Fits m cs → Few cs → ChoicesOk cs p.lines d → Open cs rest → rest < 2 ^ 24
+    → p.depth + length (bays_from rest 0) ≤ 24 → used ≤ total → Tabled p.lines d force → Stack cs p.lines d used → State m p d rest force used total
+make_state m p cs d rest force used total e fits few legal opened small deep room tabled stack = record {
+  fits = subst (Fits m) (sym e) fits;
   few = subst Few (sym e) few;
   legal = subst (λ (c : List ℕ). ChoicesOk c p.lines d) (sym e) legal;
   opened = subst (λ (c : List ℕ). Open c rest) (sym e) opened;
   small = small;
   deep = deep;
-  short = short;
   room = room;
   tabled = tabled;
   stack = subst (λ (c : List ℕ). Stack c p.lines d used) (sym e) stack;
@@ -106,17 +97,6 @@ no_bays = empty (bays_from 0 0) (λ i e. clash (members_sound (has 0) i 0 24 e).
     empty : (xs : List ℕ) → ((i : ℕ) → member i xs ≡ true → ⊥) → xs ≡ []
     empty [] f = refl
     empty (x ∷ xs) f = absurd (f x (member_head x xs))
-
--- an empty table's line
-pub plain_ok : (cs : List ℕ) (l : Line) → l.scope ≡ 0 → l.size ≡ 1 → LineOk cs l
-plain_ok cs l s z = record {
-  has_choices = λ i e. clash (subst (λ (x : ℕ). has x i ≡ true) s e) (has_none i);
-  size_is = z ∙ sym (ap (product (byte_of cs)) (ap (λ (x : ℕ). bays_from x 0) s ∙ no_bays));
-  small = rw z (omega arith);
-}
-
-pub sound_moved : (cs cs' : List ℕ) (lines lines' : List Line) → cs' ≡ cs → lines' ≡ lines → Sound cs lines → Sound cs' lines'
-sound_moved cs cs' lines lines' e f s = rw (e, f) s
 
 pub product_small : (cs bs : List ℕ) → Few cs → product (byte_of cs) bs ≤ 8 ^ length bs
 product_small cs [] few = omega arith

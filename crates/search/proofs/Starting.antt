@@ -1,13 +1,15 @@
 -- The start of a search.
-use Rattle.std.proofs.Common.{◌≡◌, ℕ, zero, suc, ◌+◌, ◌-◌, ◌^◌, ◌<◌, ◌≤◌, Bool, true, false, cond, ltb, List, [], ◌∷◌, ◌++◌, map, length, get_or, replicate, ℤ, sym, refl, ap, ◌∙◌, subst, ap₂, arith, pow_pos}
+use Rattle.std.proofs.Common.{◌≡◌, ℕ, zero, suc, ◌+◌, ◌-◌, ◌^◌, ◌<◌, ◌≤◌, Bool, true, false, cond, ltb, List, [], ◌∷◌, ◌++◌, map, length, get_or, replicate, sym, refl, ap, ◌∙◌, subst, ap₂, arith, pow_pos}
 use mathlib.Core.Path.{fun_ext}
 use mathlib.Core.Bool.{false≢true}
 use native.Mathlib.Nat.{sub-zero}
 use native.Mathlib.Decide.{dec_lt}
 use Rattle.std.specs.List.{range_with_len}
-use Rattle.std.proofs.lemmas.List.{get_or_past, map-append}
+use Rattle.std.proofs.lemmas.List.{append-nil, get_or_past, get_or-replicate, map-append}
 use Rattle.std.proofs.lemmas.Bool.{lt-ltb, le-ltb, ltb-true, eq-eqb}
-use Rattle.course.specs.Masks.{bays_of}
+use Rattle.std.proofs.lemmas.List.FromFn.{get_or-map-range_with_len, length-map-range_with_len}
+use Rattle.course.specs.Masks.{bays_of, tries_of}
+use Rattle.course.specs.declared.bound.Bound.{Bound}
 use Rattle.course.proofs.Starts.{bays_full, full_small}
 use Rattle.model.specs.Books.{Meaning, BookLaws}
 use Rattle.model.specs.Course.{Answers}
@@ -23,20 +25,15 @@ use Rattle.model.proofs.Serves.{stand_self, visit_same}
 use Rattle.search.proofs.Folds.{folds_none}
 use Rattle.search.proofs.Members.{members_same, map_members, bays_same}
 use Rattle.search.proofs.Settled.{set_none}
-use Rattle.search.proofs.Standing.{plain_ok}
-use Rattle.search.specs.Force.{no_line, flag, scope_mask, raw, masked, term, terms_from, Fits, LineOk, Sound}
+use Rattle.search.proofs.Kits.{clash}
+use Rattle.search.specs.Force.{told, no_line, flag, scope_mask, raw, masked, term, terms_from, Fits, Sound}
 use Rattle.search.specs.Places.{members, bays_from, Open, Few}
 use Rattle.search.specs.Start.{starts}
 use Rattle.search.specs.Visit.{setup_of, set_in, folds_of, Tabled, Stack}
 use Rattle.search.specs.declared.state.Line.{Line}
 
-pub replicate_at : {A : Type 0} (n : ℕ) (x d : A) (i : ℕ) → i < n → get_or (replicate n x) i d ≡ x
-replicate_at zero x d i h = absurd (omega arith)
-replicate_at (suc n) x d zero h = refl
-replicate_at (suc n) x d (suc i) h = replicate_at n x d i (omega arith)
-
-pub sound_start : (cs : List ℕ) (l : Line) → l.scope ≡ 0 → l.size ≡ 1 → Sound cs (replicate 24 l)
-sound_start cs l s z d h = subst (LineOk cs) (sym (replicate_at 24 l no_line d h)) (plain_ok cs l s z)
+pub sound_start : (cs : List ℕ) (l : Line) → (told l).folded ≡ false → Sound cs (replicate 24 l)
+sound_start cs l off d h f = clash f (ap (λ (x : Line). (told x).folded) (get_or-replicate 24 d l no_line h) ∙ off)
 
 pub length_members : (p : ℕ → Bool) (a k : ℕ) → length (members p a k) ≤ k
 unfolding members
@@ -73,10 +70,6 @@ shifted {A} f g p q s a (suc k) h e =
     go true r = ap₂ ◌∷◌ (e a (omega arith)) r
     go false r = r
 
-append_none : {A : Type 0} (xs : List A) → xs ++ [] ≡ xs
-append_none [] = refl
-append_none {A = A} (x ∷ xs) = ap (λ (l : List A). x ∷ l) (append_none xs)
-
 -- the first of the numbers from a on
 members_first : (t a n c : ℕ) → n ≤ t → a + n ≡ c → members (λ i. ltb i c) a t ≡ range_with_len a n
 unfolding members
@@ -98,6 +91,13 @@ own_stands m choices bays left σ b = record {
 owns_stand : {P : Type 0} (m : Meaning P) (choices : ℕ → ℕ) (bays left : List ℕ) (σ : Plan) (xs : List ℕ) (ts : List (Term P)) → AllStand choices bays left σ (map (own_masked m) xs ++ ts) (map (own_term m) xs ++ ts)
 owns_stand m choices bays left σ [] ts = stand_self choices bays left σ ts
 owns_stand m choices bays left σ (x ∷ xs) ts = and_stand (own_stands m choices bays left σ x) (owns_stand m choices bays left σ xs ts)
+
+-- the choices asked of a book are the book's
+pub fits_start : {P : Type 0} (K : Ops P) (m : Meaning P) → BookLaws K m → (cs : List ℕ) → cs ≡ tries_of m.choices → Fits m cs
+fits_start K m laws cs e i = ap (λ (xs : List ℕ). get_or xs i 0) e ∙ elim (dec_lt i 24) [
+  | yes lt ↦ get_or-map-range_with_len m.choices 0 24 i i 0 lt (omega arith)
+  | no ge ↦ get_or_past (tries_of m.choices) i 0 (omega (arith, length-map-range_with_len m.choices 0 24)) ∙ sym (laws.no_bay i (omega (arith, laws.few_bays)))
+]
 
 module _ {P : Type 0} (K : Ops P) (m : Meaning P) (laws : BookLaws K m) (cs : List ℕ) (fits : Fits m cs) where
   pub few_start : Few cs
@@ -153,7 +153,7 @@ module _ {P : Type 0} (K : Ops P) (m : Meaning P) (laws : BookLaws K m) (cs : Li
   module _ (lines : List Line) (cells : List P) (force : List Bool) (h : (j : ℕ) → j < 112 → flag force j ≡ starts m.bays m.rules j) where
     terms_start : terms_from K m cs lines cells force 0 ≡ map (own_masked m) (range_with_len 0 m.bays) ++ map (rule_term m) (range_with_len 0 m.rules)
     terms_start =
-        ap (map t) (members_split (flag force) 0 24 88 ∙ ap (λ (r : List ℕ). members (flag force) 0 24 ++ r) (members_split (flag force) 24 64 24 ∙ ap (λ (r : List ℕ). members (flag force) 24 64 ++ r) tables ∙ append_none _))
+        ap (map t) (members_split (flag force) 0 24 88 ∙ ap (λ (r : List ℕ). members (flag force) 0 24 ++ r) (members_split (flag force) 24 64 24 ∙ ap (λ (r : List ℕ). members (flag force) 24 64 ++ r) tables ∙ append-nil _))
         ∙ map-append t (members (flag force) 0 24) (members (flag force) 24 64)
         ∙ ap₂ ◌++◌
         (map_members t (own_masked m) (flag force) 0 24 (λ i _ l u. term_own lines cells i (omega arith))
@@ -171,12 +171,12 @@ module _ {P : Type 0} (K : Ops P) (m : Meaning P) (laws : BookLaws K m) (cs : Li
         rule_flag r l = let lo : ltb (r + 24) 24 ≡ false = le-ltb (r + 24) 24 (omega arith) in let hi : ltb (r + 24) 88 ≡ true = lt-ltb (r + 24) 88 (omega arith) in let z : r + 24 - 24 ≡ r = omega arith in rw (lo, hi, z) refl
 
     -- the visit that the code starts with is the search of the book
-    pub search_start : (mask : ℕ) → mask ≡ 2 ^ m.bays - 1 → (pick : Answers) (k : ℤ) (limit : ℕ) (ceiling : P)
+    pub search_start : (mask : ℕ) → mask ≡ 2 ^ m.bays - 1 → (pick : Answers) (k : Bound) (limit : ℕ) (ceiling : P)
         → visit (setup_of K cs pick k limit) (length (bays_from mask 0)) (bays_from mask 0) (terms_from K m cs lines cells force 0) (length cells - 0) (set_in lines 0) (folds_of K m cs lines cells 0) (begun ceiling)
-        ≡ search_in K m pick k limit (length cells) ceiling
+        ≡ search_in K m pick k.k limit (length cells) ceiling
     unfolding search_in terms_in
     search_start mask is pick k limit ceiling =
-        ap (λ (f : ℕ → ℕ). visit (record { passing = record { choices = f; pick = pick; k = k }; ops = K; bound = floor K f; limit = limit }) (length (bays_from mask 0)) (bays_from mask 0) (terms_from K m cs lines cells force 0) (length cells - 0) (set_in lines 0) (folds_of K m cs lines cells 0) (begun ceiling)) (fun_ext fits)
+        ap (λ (f : ℕ → ℕ). visit (record { passing = record { choices = f; pick = pick; k = k.k }; ops = K; bound = floor K f; limit = limit }) (length (bays_from mask 0)) (bays_from mask 0) (terms_from K m cs lines cells force 0) (length cells - 0) (set_in lines 0) (folds_of K m cs lines cells 0) (begun ceiling)) (fun_ext fits)
         ∙ ap (λ (l : List ℕ). visit S (length l) l (terms_from K m cs lines cells force 0) (length cells - 0) (set_in lines 0) (folds_of K m cs lines cells 0) (begun ceiling)) (bays_same mask ∙ ap bays_of is ∙ bays_full m.bays laws.few_bays)
         ∙ ap (λ (ts : List (Term P)). visit S (length left) left ts (length cells - 0) (set_in lines 0) (folds_of K m cs lines cells 0) (begun ceiling)) terms_start
         ∙ ap₂ (λ (u : ℕ) (σ : Plan). visit S (length left) left us u σ (folds_of K m cs lines cells 0) (begun ceiling)) (sub-zero (length cells)) (set_none lines)
@@ -185,7 +185,7 @@ module _ {P : Type 0} (K : Ops P) (m : Meaning P) (laws : BookLaws K m) (cs : Li
         (owns_stand m m.choices left left (λ _. 0) left (map (rule_term m) (range_with_len 0 m.rules))) (λ π l q. refl) (begun ceiling)
       where
         S : Setup P
-        S = setup_in K m pick k limit
+        S = setup_in K m pick k.k limit
 
         left : List ℕ
         left = range_with_len 0 m.bays

@@ -1,5 +1,5 @@
 -- How the defined sums go on, step by step.
-use Rattle.std.proofs.Common.{◌≡◌, ℕ, zero, suc, ◌+◌, ◌-◌, ◌<◌, ◌≤◌, Bool, true, false, cond, List, [], ◌∷◌, map, length, get_or, set, sym, refl, ap, ◌∙◌, arith}
+use Rattle.std.proofs.Common.{◌≡◌, ℕ, zero, suc, ◌+◌, ◌-◌, ◌<◌, ◌≤◌, Bool, true, false, cond, ◌&&◌, ◌||◌, List, [], ◌∷◌, map, length, get_or, set, sym, refl, ap, ◌∙◌, le_refl, arith, add-one}
 use mathlib.Core.Path.{fun_ext}
 use borrow.Author.Tests.{eqb-false}
 use Rattle.std.proofs.lemmas.List.{get_or-set_same, get_or-set_other}
@@ -7,9 +7,10 @@ use Rattle.model.proofs.Ordered.{put_is}
 use Rattle.model.specs.Books.{Meaning}
 use Rattle.model.specs.Prices.{Ops}
 use Rattle.model.specs.Sets.{has}
-use Rattle.model.specs.Terms.{Plan, put, Term, least, least_at, least_price, cost, touching}
+use Rattle.model.specs.Lists.{any}
+use Rattle.model.specs.Terms.{Plan, put, Term, least, least_at, least_price, floor, cost, touching}
 use Rattle.search.proofs.Members.{members_end, members_in, members_out}
-use Rattle.search.specs.Force.{flag, term, terms_from}
+use Rattle.search.specs.Force.{flag, scope_mask, term, terms_from, lowest_from, floor_from, charge_from, shares}
 use Rattle.search.specs.Places.{bays_from, byte_of}
 use Rattle.search.specs.declared.state.Line.{Line}
 
@@ -18,34 +19,27 @@ bytes_put plan b c h = fun_ext (λ i. sym (put_is b c (byte_of plan) i (get_or (
     (λ e. sym (ap (λ (k : ℕ). get_or (set plan b c) k 0) e ∙ get_or-set_same plan b c 0 h))
     (λ e. sym (get_or-set_other plan b i c 0 (eqb-false i b e)))))
 
-pub least_more : {P : Type 0} (K : Ops P) (n : ℕ) (f : ℕ → P) → 1 < n → least K n f ≡ cond (K.at_most (least K (n - 1) f) (f (n - 1))) (least K (n - 1) f) (f (n - 1))
+pub least_more : {P : Type 0} (K : Ops P) (n : ℕ) (f : ℕ → P) → 0 < n → least K (n + 1) f ≡ cond (K.at_most (least K n f) (f n)) (least K n f) (f n)
 least_more K zero f h = absurd (omega arith)
-least_more K (suc zero) f h = absurd (omega arith)
-least_more K (suc (suc n)) f h = let z : suc (suc n) - 1 ≡ suc n = omega arith in rw z refl
+least_more K (suc n) f h = rw add-one refl
 
-pub least_at_more : {P : Type 0} (K : Ops P) (n : ℕ) (f : ℕ → P) → 1 < n → least_at K n f ≡ cond (K.at_most (least K (n - 1) f) (f (n - 1))) (least_at K (n - 1) f) (n - 1)
+pub least_at_more : {P : Type 0} (K : Ops P) (n : ℕ) (f : ℕ → P) → 0 < n → least_at K (n + 1) f ≡ cond (K.at_most (least K n f) (f n)) (least_at K n f) n
 least_at_more K zero f h = absurd (omega arith)
-least_at_more K (suc zero) f h = absurd (omega arith)
-least_at_more K (suc (suc n)) f h = let z : suc (suc n) - 1 ≡ suc n = omega arith in rw z refl
+least_at_more K (suc n) f h = rw add-one refl
 
-pub least_one : {P : Type 0} (K : Ops P) (n : ℕ) (f : ℕ → P) (last : P) → last ≡ f (n - 1) → n ≡ 1 → last ≡ least K n f
-least_one K n f last l e = l ∙ rw e refl
+-- one choice more: the best so far stays, or the new price is less
+module _ {P : Type 0} (K : Ops P) (n : ℕ) (f : ℕ → P) (best price : P) (some : 0 < n) (b : best ≡ least K n f) (p : price ≡ f n) where
+  pub least_kept : K.at_most best price ≡ true → best ≡ least K (n + 1) f
+  least_kept t = let s : K.at_most (least K n f) (f n) ≡ true = rw (sym b, sym p) t in b ∙ sym (least_more K n f some ∙ rw s refl)
 
-pub least_at_one : {P : Type 0} (K : Ops P) (n : ℕ) (f : ℕ → P) → n ≡ 1 → 0 ≡ least_at K n f
-least_at_one K n f e = rw e refl
+  pub least_taken : K.at_most best price ≡ false → price ≡ least K (n + 1) f
+  least_taken t = let s : K.at_most (least K n f) (f n) ≡ false = rw (sym b, sym p) t in p ∙ sym (least_more K n f some ∙ rw s refl)
 
-module _ {P : Type 0} (K : Ops P) (n : ℕ) (f : ℕ → P) (best last : P) (b : best ≡ least K (n - 1) f) (l : last ≡ f (n - 1)) where
-  pub least_best : 1 < n → true ≡ K.at_most best last → best ≡ least K n f
-  least_best h t = let s : K.at_most (least K (n - 1) f) (f (n - 1)) ≡ true = rw (sym b, sym l) (sym t) in b ∙ sym (least_more K n f h ∙ rw s refl)
+  pub least_at_kept : K.at_most best price ≡ true → least_at K n f ≡ least_at K (n + 1) f
+  least_at_kept t = let s : K.at_most (least K n f) (f n) ≡ true = rw (sym b, sym p) t in sym (least_at_more K n f some ∙ rw s refl)
 
-  pub least_last : 1 < n → false ≡ K.at_most best last → last ≡ least K n f
-  least_last h t = let s : K.at_most (least K (n - 1) f) (f (n - 1)) ≡ false = rw (sym b, sym l) (sym t) in l ∙ sym (least_more K n f h ∙ rw s refl)
-
-  pub least_at_best : 1 < n → true ≡ K.at_most best last → least_at K (n - 1) f ≡ least_at K n f
-  least_at_best h t = let s : K.at_most (least K (n - 1) f) (f (n - 1)) ≡ true = rw (sym b, sym l) (sym t) in sym (least_at_more K n f h ∙ rw s refl)
-
-  pub least_at_last : 1 < n → false ≡ K.at_most best last → n - 1 ≡ least_at K n f
-  least_at_last h t = let s : K.at_most (least K (n - 1) f) (f (n - 1)) ≡ false = rw (sym b, sym l) (sym t) in sym (least_at_more K n f h ∙ rw s refl)
+  pub least_at_taken : K.at_most best price ≡ false → n ≡ least_at K (n + 1) f
+  least_at_taken t = let s : K.at_most (least K n f) (f n) ≡ false = rw (sym b, sym p) t in sym (least_at_more K n f some ∙ rw s refl)
 
 module _ {P : Type 0} (K : Ops P) (choices : ℕ → ℕ) (t : Term P) (left b : ℕ) (π : Plan) where
   pub least_price_end : 24 ≤ b → least_price K choices t (bays_from left b) π ≡ t.value π
@@ -70,8 +64,62 @@ module _ {P : Type 0} (K : Ops P) (m : Meaning P) (cs : List ℕ) (lines : List 
   pub terms_out : j < 112 → flag force j ≡ false → terms_from K m cs lines cells force j ≡ terms_from K m cs lines cells force (j + 1)
   terms_out h e = ap (map (term K m cs lines cells)) (members_out (flag force) j 112 h e)
 
-pub touching_in : {P : Type 0} (K : Ops P) (b : ℕ) (t : Term P) (ts : List (Term P)) (π : Plan) → t.scope b ≡ true → cost K (touching b (t ∷ ts)) π ≡ K.combine (t.value π) (cost K (touching b ts) π)
-touching_in K b t ts π e = rw e refl
+-- past the last term nothing is in force
+module _ {P : Type 0} (K : Ops P) (m : Meaning P) (cs : List ℕ) (lines : List Line) (cells : List P) (force : List Bool) where
+  pub floor_end : (left : ℕ) (π : Plan) → floor_from K m cs lines cells force left π 112 ≡ K.free
+  floor_end left π = ap (λ (ts : List (Term P)). floor K (byte_of cs) ts (bays_from left 0) π) (terms_end K m cs lines cells force 112 (le_refl 112))
 
-pub touching_out : {P : Type 0} (K : Ops P) (b : ℕ) (t : Term P) (ts : List (Term P)) (π : Plan) → t.scope b ≡ false → cost K (touching b (t ∷ ts)) π ≡ cost K (touching b ts) π
-touching_out K b t ts π e = rw e refl
+  pub charge_end : (b : ℕ) (π : Plan) → charge_from K m cs lines cells force b π 112 ≡ K.free
+  charge_end b π = ap (λ (ts : List (Term P)). cost K (touching b ts) π) (terms_end K m cs lines cells force 112 (le_refl 112))
+
+pub shares_end : {P : Type 0} (m : Meaning P) (lines : List Line) (force : List Bool) (b i : ℕ) → shares m lines force b 112 i ≡ false
+shares_end m lines force b i = ap (any (λ k. has (scope_mask m lines k) b && has (scope_mask m lines k) i)) (members_end (flag force) 112 112 (le_refl 112))
+
+-- a sum over the terms in force goes down by one number
+module _ {P : Type 0} (K : Ops P) (m : Meaning P) (cs : List ℕ) (lines : List Line) (cells : List P) (force : List Bool) (n : ℕ) (lo : 0 < n) (hi : n ≤ 112) where
+  back_one : n ≡ n - 1 + 1
+  back_one = omega arith
+
+  module _ (left : ℕ) (π : Plan) where
+    pub floor_off : flag force (n - 1) ≡ false → floor_from K m cs lines cells force left π n ≡ floor_from K m cs lines cells force left π (n - 1)
+    floor_off e =
+        ap (floor_from K m cs lines cells force left π) back_one
+        ∙ sym (ap (λ (ts : List (Term P)). floor K (byte_of cs) ts (bays_from left 0) π) (terms_out K m cs lines cells force (n - 1) (omega arith) e))
+
+    pub floor_on : flag force (n - 1) ≡ true → K.combine (lowest_from K m cs lines cells (n - 1) left 0 π) (floor_from K m cs lines cells force left π n) ≡ floor_from K m cs lines cells force left π (n - 1)
+    floor_on e =
+        ap (λ (x : ℕ). K.combine (lowest_from K m cs lines cells (n - 1) left 0 π) (floor_from K m cs lines cells force left π x)) back_one
+        ∙ sym (ap (λ (ts : List (Term P)). floor K (byte_of cs) ts (bays_from left 0) π) (terms_in K m cs lines cells force (n - 1) (omega arith) e))
+
+  module _ (b : ℕ) (π : Plan) where
+    pub charge_off : flag force (n - 1) ≡ false → charge_from K m cs lines cells force b π n ≡ charge_from K m cs lines cells force b π (n - 1)
+    charge_off e =
+        ap (charge_from K m cs lines cells force b π) back_one ∙ sym (ap (λ (ts : List (Term P)). cost K (touching b ts) π) (terms_out K m cs lines cells force (n - 1) (omega arith) e))
+
+    pub charge_past : flag force (n - 1) ≡ true → has (scope_mask m lines (n - 1)) b ≡ false → charge_from K m cs lines cells force b π n ≡ charge_from K m cs lines cells force b π (n - 1)
+    charge_past e t =
+        ap (charge_from K m cs lines cells force b π) back_one
+        ∙ sym (ap (λ (ts : List (Term P)). cost K (touching b ts) π) (terms_in K m cs lines cells force (n - 1) (omega arith) e) ∙ rw t refl)
+
+    pub charge_on : flag force (n - 1) ≡ true → has (scope_mask m lines (n - 1)) b ≡ true
+        → K.combine ((term K m cs lines cells (n - 1)).value π) (charge_from K m cs lines cells force b π n) ≡ charge_from K m cs lines cells force b π (n - 1)
+    charge_on e t =
+        ap (λ (x : ℕ). K.combine ((term K m cs lines cells (n - 1)).value π) (charge_from K m cs lines cells force b π x)) back_one
+        ∙ sym (ap (λ (ts : List (Term P)). cost K (touching b ts) π) (terms_in K m cs lines cells force (n - 1) (omega arith) e) ∙ rw t refl)
+
+-- so do the bays that share a term with b
+module _ {P : Type 0} (m : Meaning P) (lines : List Line) (force : List Bool) (b i n : ℕ) (lo : 0 < n) (hi : n ≤ 112) where
+  abbrev joins : ℕ → Bool
+  joins k = has (scope_mask m lines k) b && has (scope_mask m lines k) i
+
+  later : shares m lines force b n i ≡ shares m lines force b (n - 1 + 1) i
+  later = let z : n ≡ n - 1 + 1 = omega arith in ap (λ (x : ℕ). shares m lines force b x i) z
+
+  pub shares_off : flag force (n - 1) ≡ false → shares m lines force b n i ≡ shares m lines force b (n - 1) i
+  shares_off e = later ∙ sym (ap (any joins) (members_out (flag force) (n - 1) 112 (omega arith) e))
+
+  pub shares_past : flag force (n - 1) ≡ true → has (scope_mask m lines (n - 1)) b ≡ false → shares m lines force b n i ≡ shares m lines force b (n - 1) i
+  shares_past e t = later ∙ sym (ap (any joins) (members_in (flag force) (n - 1) 112 (omega arith) e) ∙ rw t refl)
+
+  pub shares_on : flag force (n - 1) ≡ true → has (scope_mask m lines (n - 1)) b ≡ true → (has (scope_mask m lines (n - 1)) i || shares m lines force b n i) ≡ shares m lines force b (n - 1) i
+  shares_on e t = ap (λ (x : Bool). has (scope_mask m lines (n - 1)) i || x) later ∙ sym (ap (any joins) (members_in (flag force) (n - 1) 112 (omega arith) e) ∙ rw t refl)

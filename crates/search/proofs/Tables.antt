@@ -14,7 +14,7 @@ use Rattle.model.specs.Terms.{Plan}
 use Rattle.std.proofs.lemmas.Bool.{or_right}
 use Rattle.model.specs.Searched.{bytes_in}
 use Rattle.search.proofs.Members.{map_members}
-use Rattle.search.specs.Force.{line_at, flag, scope_mask, block, table_value, raw, masked, term, terms_from, Under}
+use Rattle.search.specs.Force.{Told, line_at, flag, scope_mask, block, table_value, raw, masked, term, terms_from, Under}
 use Rattle.search.specs.Places.{place, members, byte_of, decoded, PlanOk}
 use Rattle.search.specs.declared.state.Line.{Line}
 
@@ -148,7 +148,7 @@ take_drop_take s (suc o) zero xs h = absurd (omega arith)
 take_drop_take s (suc o) (suc u) [] h = refl
 take_drop_take s (suc o) (suc u) (x ∷ xs) h = take_drop_take s o u xs (omega arith)
 
-pub block_frame : {P : Type 0} (l : Line) (used : ℕ) (xs ys : List P) → l.offset + l.size ≤ used → take used xs ≡ take used ys → block xs l ≡ block ys l
+pub block_frame : {P : Type 0} (l : Told) (used : ℕ) (xs ys : List P) → l.offset + l.size ≤ used → take used xs ≡ take used ys → block xs l ≡ block ys l
 block_frame l used xs ys h e = sym (take_drop_take l.size l.offset used xs h) ∙ ap (λ zs. take l.size (drop l.offset zs)) e ∙ take_drop_take l.size l.offset used ys h
 
 -- two worlds have the same term where its line and its cells are the same
@@ -161,7 +161,7 @@ term_frame {P} K m cs lines lines' xs ys j h = elim (dec_lt j 88) [ yes lt ↦ a
     mask_low lt = let e = lt-ltb j 88 lt in rw e refl
 
     mask_high : line_at lines (j - 88) ≡ line_at lines' (j - 88) → scope_mask m lines j ≡ scope_mask m lines' j
-    mask_high e = ap (λ (l : Line). cond (ltb j 24) (2 ^ j) (cond (ltb j 88) (m.scope (j - 24)) l.scope)) e
+    mask_high e = ap (λ (l : Told). cond (ltb j 24) (2 ^ j) (cond (ltb j 88) (m.scope (j - 24)) l.scope)) e
 
     raw_low : j < 88 → (π : Plan) → raw K m cs lines xs j π ≡ raw K m cs lines' ys j π
     raw_low lt π = let e = lt-ltb j 88 lt in rw e refl
@@ -169,7 +169,7 @@ term_frame {P} K m cs lines lines' xs ys j h = elim (dec_lt j 88) [ yes lt ↦ a
     raw_high : (line_at lines (j - 88) ≡ line_at lines' (j - 88)) × (block xs (line_at lines (j - 88)) ≡ block ys (line_at lines (j - 88))) → (π : Plan) → raw K m cs lines xs j π ≡ raw K m cs lines' ys j π
     raw_high g π =
         ap (λ (cells : List P). cond (ltb j 24) (m.own j (π j)) (cond (ltb j 88) (m.price (j - 24) (bytes_in m π)) (table_value K cs (line_at lines (j - 88)).scope cells π))) g.1
-        ∙ ap (λ (l : Line). cond (ltb j 24) (m.own j (π j)) (cond (ltb j 88) (m.price (j - 24) (bytes_in m π)) (table_value K cs l.scope (block ys l) π))) g.0
+        ∙ ap (λ (l : Told). cond (ltb j 24) (m.own j (π j)) (cond (ltb j 88) (m.price (j - 24) (bytes_in m π)) (table_value K cs l.scope (block ys l) π))) g.0
 
 pub terms_frame : {P : Type 0} (K : Ops P) (m : Meaning P) (cs : List ℕ) (lines : List Line) (xs ys : List P) (force : List Bool) (used a : ℕ) → Under lines force used → take used xs ≡ take used ys → terms_from K m cs lines xs force a ≡ terms_from K m cs lines ys force a
 terms_frame K m cs lines xs ys force used a under e =

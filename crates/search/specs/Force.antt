@@ -1,6 +1,7 @@
 -- The terms that the lines of a search hold, by number, and what is worked out from those in force.
 use Rattle.std.specs.Prelude.{◌≡◌, ℕ, ◌+◌, ◌-◌, ◌^◌, ◌<◌, ◌≤◌, Bool, true, false, cond, ◌&&◌, List, [], map, take, drop, nat_lt, slice_index, slice_index_or}
 use Rattle.std.proofs.Common.{ap}
+use Rattle.std.specs.Coded.{le_prop, Coded-set, coded_ℕ}
 use Rattle.model.specs.Books.{Meaning}
 use Rattle.model.specs.Lists.{any, product}
 use Rattle.model.specs.Prices.{Ops}
@@ -9,12 +10,55 @@ use Rattle.model.specs.Searched.{bytes_in, within, within_same}
 use Rattle.model.specs.Terms.{Plan, Term, put, least, least_price, floor, cost, touching}
 use Rattle.search.specs.Places.{place, members, bays_from, byte_of, Open}
 use Rattle.search.specs.declared.state.Line.{Line}
+use Rattle.search.specs.declared.state.Passed.{Passed}
+use Rattle.search.specs.declared.state.Passed.TheVariants.{Branched, Folded}
+
+-- the choice of a branched line; of a folded one the terms in force before it, and its table's bays, first cell and size
+abbrev pub choice_of : Passed → ℕ
+choice_of (Branched c) = c
+choice_of (Folded force table offset) = 0
+
+abbrev pub is_folded : Passed → Bool
+is_folded (Branched c) = false
+is_folded (Folded force table offset) = true
+
+abbrev pub force_of : Passed → List Bool
+force_of (Branched c) = []
+force_of (Folded force table offset) = force
+
+abbrev pub scope_of : Passed → ℕ
+scope_of (Branched c) = 0
+scope_of (Folded force table offset) = table.near
+
+abbrev pub offset_of : Passed → ℕ
+offset_of (Branched c) = 0
+offset_of (Folded force table offset) = offset
+
+abbrev pub size_of : Passed → ℕ
+size_of (Branched c) = 0
+size_of (Folded force table offset) = table.size
+
+-- what a line tells, field by field
+pub record Told : Type 0 where
+  pub bay : ℕ
+  pub choice : ℕ
+  pub folded : Bool
+  pub force : List Bool
+  pub scope : ℕ
+  pub offset : ℕ
+  pub size : ℕ
+
+abbrev pub told : Line → Told
+told l = record { bay = l.bay; choice = choice_of l.passed; folded = is_folded l.passed; force = force_of l.passed; scope = scope_of l.passed; offset = offset_of l.passed; size = size_of l.passed }
 
 abbrev pub no_line : Line
-no_line = record { bay = 0; choice = 0; folded = false; force = []; scope = 0; offset = 0; size = 0 }
+no_line = record { bay = 0; passed = Branched 0 }
 
-abbrev pub line_at : List Line → ℕ → Line
-line_at lines d = slice_index_or lines d no_line
+abbrev pub nth_line : List Line → ℕ → Line
+nth_line lines d = slice_index_or lines d no_line
+
+abbrev pub line_at : List Line → ℕ → Told
+line_at lines d = told (nth_line lines d)
 
 abbrev pub flag : List Bool → ℕ → Bool
 flag force j = slice_index_or force j false
@@ -24,7 +68,7 @@ unfoldable pub scope_mask : {P : Type 0} → Meaning P → List Line → ℕ →
 scope_mask m lines j = cond (nat_lt j 24) (2 ^ j) (cond (nat_lt j 88) (m.scope (j - 24)) (line_at lines (j - 88)).scope)
 
 -- the cells of a line's table, and the price that they give a plan
-abbrev pub block : {P : Type 0} → List P → Line → List P
+abbrev pub block : {P : Type 0} → List P → Told → List P
 block cells l = take l.size (drop l.offset cells)
 
 abbrev pub table_value : {P : Type 0} → Ops P → List ℕ → ℕ → List P → Plan → P
@@ -54,18 +98,22 @@ terms_from o m cs lines cells force j = map (term o m cs lines cells) (members (
 abbrev pub Fits : {P : Type 0} → Meaning P → List ℕ → Type 0
 Fits m cs = (i : ℕ) → slice_index cs i ≡ m.choices i
 
--- a line's table has a cell for each combination of its bays' choices
-pub record LineOk (cs : List ℕ) (l : Line) : Type 0 where
+-- a folded line's table has a cell for each combination of its bays' choices
+pub record LineOk (cs : List ℕ) (l : Told) : Type 0 where
   pub has_choices : Open cs l.scope
   pub size_is : l.size ≡ product (byte_of cs) (bays_from l.scope 0)
   pub small : l.size ≤ 4096
 
 abbrev pub Sound : List ℕ → List Line → Type 0
-Sound cs lines = (d : ℕ) → d < 24 → LineOk cs (line_at lines d)
+Sound cs lines = (d : ℕ) → d < 24 → (line_at lines d).folded ≡ true → LineOk cs (line_at lines d)
 
-pub record Ready {P : Type 0} (m : Meaning P) (cs : List ℕ) (lines : List Line) : Type 0 where
-  pub fits : Fits m cs
-  pub sound : Sound cs lines
+-- that lines are sound has one proof at most
+pub Sound_prop : (cs : List ℕ) (lines : List Line) → IsProp (Sound cs lines)
+Sound_prop cs lines p q = λ i d l f. record {
+  has_choices = λ b e. le_prop ((p d l f).has_choices b e) ((q d l f).has_choices b e) i;
+  size_is = Coded-set coded_ℕ _ _ (p d l f).size_is (q d l f).size_is i;
+  small = le_prop (p d l f).small (q d l f).small i;
+}
 
 -- the least of the term j over the bays left from b on, and over the first n choices of b
 abbrev pub lowest_from : {P : Type 0} → Ops P → Meaning P → List ℕ → List Line → List P → ℕ → ℕ → ℕ → Plan → P

@@ -1,6 +1,7 @@
 -- What the lines and the state of a search stand for, and what its steps make of them.
-use Rattle.std.specs.Prelude.{◌≡◌, ℕ, zero, suc, ◌+◌, ◌-◌, ◌^◌, ◌<◌, ◌≤◌, Bool, true, false, cond, not, ◌&&◌, List, [], ◌∷◌, length, ℤ, pos, ◌==◌, int_le, nat_lt, slice_index}
-use Rattle.std.proofs.Math.Option.{none, some}
+use Rattle.std.specs.Prelude.{◌≡◌, ℕ, zero, suc, ◌+◌, ◌-◌, ◌^◌, ◌<◌, ◌≤◌, Bool, true, false, cond, not, ◌&&◌, List, [], ◌∷◌, length, ◌==◌, Some, None, Option as Maybe, nat_lt, slice_index}
+use Rattle.std.proofs.Math.Option.{Option, none, some}
+use Rattle.course.specs.declared.bound.Bound.{Bound}
 use Rattle.model.specs.Prices.{Ops}
 use Rattle.model.specs.Books.{Meaning}
 use Rattle.model.specs.Lists.{member, product}
@@ -9,20 +10,26 @@ use Rattle.model.specs.Course.{Answers, Step, decide, drop_bay}
 use Rattle.model.specs.Terms.{Plan, Term, Fold, floor, put, folded}
 use Rattle.model.specs.Search.{Setup, Sofar, visit, each, share}
 use Rattle.search.specs.Places.{members, bays_from, byte_of, Open, Few}
-use Rattle.search.specs.Force.{line_at, flag, scope_mask, terms_from, shares, Ready}
+use Rattle.search.specs.Force.{line_at, flag, scope_mask, terms_from, shares, Fits}
 use Rattle.search.specs.declared.state.Line.{Line}
+use Rattle.search.specs.declared.state.Passed.TheVariants.{Branched}
 use Rattle.search.specs.declared.state.Search.{Search}
 
-abbrev pub setup_of : {P : Type 0} → Ops P → List ℕ → Answers → ℤ → ℕ → Setup P
-setup_of o cs pick k limit = record { passing = record { choices = byte_of cs; pick = pick; k = k }; ops = o; bound = floor o (byte_of cs); limit = limit }
+abbrev pub setup_of : {P : Type 0} → Ops P → List ℕ → Answers → Bound → ℕ → Setup P
+setup_of o cs pick k limit = record { passing = record { choices = byte_of cs; pick = pick; k = k.k }; ops = o; bound = floor o (byte_of cs); limit = limit }
 
 -- the bays with choices
 abbrev pub all_bays : List ℕ → List ℕ
 all_bays cs = members (λ i. nat_lt 0 (slice_index cs i)) 0 24
 
+-- the plan that bytes hold, if there are any
+abbrev pub plan_of : Maybe (List ℕ) → Option Plan
+plan_of None = none
+plan_of (Some plan) = some (byte_of plan)
+
 -- what a search has so far
 abbrev pub sofar : {P : Type 0} → Search P → Bool → Sofar P
-sofar s r = record { count = s.count; best = s.best; plan = cond s.found (some (byte_of s.plan)) none; stopped = r }
+sofar s r = record { count = s.count; best = s.best; plan = plan_of s.plan; stopped = r }
 
 -- the choices that the first d lines set: a branched bay has its line's choice
 unfoldable pub set_in : List Line → ℕ → Plan
@@ -57,13 +64,12 @@ pub record Stack (cs : List ℕ) (lines : List Line) (d used : ℕ) : Type 0 whe
 
 -- what holds between steps, of the first d lines
 pub record State {P : Type 0} (m : Meaning P) (s : Search P) (d remaining : ℕ) (force : List Bool) (used total : ℕ) : Type 0 where
-  pub ready : Ready m s.choices s.lines
+  pub fits : Fits m s.choices
   pub few : Few s.choices
   pub legal : ChoicesOk s.choices s.lines d
   pub opened : Open s.choices remaining
   pub small : remaining < 2 ^ 24
   pub deep : s.depth + length (bays_from remaining 0) ≤ 24
-  pub short : int_le s.k (pos 4) ≡ true
   pub room : used ≤ total
   pub tabled : Tabled s.lines d force
   pub stack : Stack s.choices s.lines d used
@@ -84,7 +90,6 @@ pub record Framed {P : Type 0} (d : ℕ) (a b : Search P) : Type 0 where
 pub record Same {P : Type 0} (a b : Search P) : Type 0 where
   pub choices : b.choices ≡ a.choices
   pub best : b.best ≡ a.best
-  pub found : b.found ≡ a.found
   pub plan : b.plan ≡ a.plan
   pub count : b.count ≡ a.count
   pub limit : b.limit ≡ a.limit
@@ -110,13 +115,17 @@ branching o m pick s d rest force used cells b t n =
 abbrev pub is_near : {P : Type 0} → Meaning P → List Line → List Bool → ℕ → ℕ → ℕ → Bool
 is_near m lines force remaining b i = has remaining i && (not (i == b) && shares m lines force b 0 i)
 
+-- a set has the neighbours of a bay
+pub record Nears {P : Type 0} (m : Meaning P) (lines : List Line) (force : List Bool) (remaining b set : ℕ) : Type 0 where
+  pub has_is : (i : ℕ) → has set i ≡ is_near m lines force remaining b i
+
 -- the terms in force once b is folded at the depth d
 abbrev pub after : {P : Type 0} → Meaning P → List Line → List Bool → ℕ → ℕ → ℕ → Bool
 after m lines force b d j = cond (j == 88 + d) true (flag force j && not (has (scope_mask m lines j) b))
 
 -- a line with another choice
 abbrev pub tried : Line → ℕ → Line
-tried l c = record { bay = l.bay; choice = c; folded = l.folded; force = l.force; scope = l.scope; offset = l.offset; size = l.size }
+tried l c = record { bay = l.bay; passed = Branched c }
 
 -- what is decided of the next bay: which, and, where it is folded, its neighbours and the size of their table
 pub record Decided {P : Type 0} (o : Ops P) (m : Meaning P) (pick : Answers) (s : Search P) (remaining : ℕ) (force : List Bool) (used : ℕ) (cells : List P) (bay : ℕ) (fold : Bool) (nears size : ℕ) : Type 0 where

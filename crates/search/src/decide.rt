@@ -1,53 +1,62 @@
 // Which bay is next, and whether it is folded.
-ghost use Rattle.std.specs.Prelude.{◌≡◌, ◌^◌, ◌<◌, ◌≤◌, true, length, pos, int_le};
+ghost use Rattle.std.specs.Prelude.{◌^◌, ◌<◌, ◌≤◌, length};
 ghost use Rattle.course.specs.Views.{answers_of};
-ghost use Rattle.search.specs.Visit.{Decided};
+ghost use Rattle.search.specs.Force.{Fits};
+ghost use Rattle.search.specs.Decisions.{Decides};
 
-use crate::near::nears;
-use crate::state::Search;
+use crate::state::{Given, Left, Search};
+use crate::terms::Terms;
 use bays::neighbours_of;
 use books::book::Book;
 use course::step::step;
 use pickers::picker::Picker;
 use prices::price::Price;
 
-// The bay to pass next, whether it is folded, its neighbours, and the cells of their table.
+// The bay to pass next, and the table of its fold; none where it is branched.
 #[derive(Clone, Copy)]
 pub(crate) struct Decision {
     pub(crate) bay: u8,
-    pub(crate) fold: bool,
+    pub(crate) table: Option<Table>,
+}
+
+// The bays that a table is over, and how many cells it has.
+#[derive(Clone, Copy)]
+pub(crate) struct Table {
     pub(crate) near: u32,
     pub(crate) size: usize,
 }
 
+// The step that the course takes, with the bays that its table is over.
 pub(crate) fn decide_step<P: Price, B: Book<Cost = P>, K: Picker>(
     search: &Search<P>,
-    book: &B,
-    picker: &K,
-    remaining: u32,
-    force: &[bool; 112],
-    used: usize,
+    given: &Given<B, K>,
+    left: &Left,
     scratch: &[P],
 ) -> Decision
-    requires some { 0 < remaining }
-    requires small { remaining < 2 ^ 24 }
-    requires short { int_le search.now.k (pos 4) ≡ true }
-    requires room { used ≤ length scratch.now }
-    ensures { Decided P.ops (B.meaning book.now) (answers_of (K.answer picker.now)) search.now remaining force.now used scratch.now result.bay result.fold result.near result.size }
+    requires fits { Fits (B.meaning given.now.book.now) search.now.choices }
+    requires some { 0 < left.now.remaining }
+    requires small { left.now.remaining < 2 ^ 24 }
+    requires room { left.now.used ≤ length scratch.now }
+    ensures { Decides P.ops (B.meaning given.now.book.now) (answers_of (K.answer given.now.picker.now)) search.now left.now.remaining left.now.force.now left.now.used scratch.now result }
 {
-    let near = nears(book, &search.lines, force, remaining);
+    let terms = Terms {
+        book: given.book,
+        choices: &search.choices,
+        lines: &search.lines,
+        cells: scratch,
+    };
+    let nears = terms.nears(left.force, left.remaining);
     let next = step(
-        picker,
+        given.picker,
         &search.choices,
-        search.k,
-        near,
-        remaining,
-        scratch.len() - used,
+        search.k.k(),
+        nears,
+        left.remaining,
+        scratch.len() - left.used,
     );
+    let near = neighbours_of(&nears, next.bay);
     Decision {
         bay: next.bay,
-        fold: next.folded,
-        near: neighbours_of(&near, next.bay),
-        size: next.used,
+        table: next.table.map(|size| Table { near, size }),
     }
 }

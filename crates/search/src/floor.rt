@@ -1,120 +1,65 @@
 // The floor of a visit: what the terms in force cost at least, whatever the bays left choose.
 ghost use Rattle.std.specs.Prelude.{◌≡◌, ◌+◌, ◌-◌, ◌<◌, ◌≤◌, slice_index};
-ghost use Rattle.search.specs.Force.{Ready, lowest_from, lowest_over_from, floor_from};
+ghost use Rattle.search.specs.Force.{lowest_from, lowest_over_from, floor_from};
 ghost use Rattle.search.specs.Places.{byte_of, Open, PlanOk};
 
-use crate::places::holds;
-use crate::state::Line;
-use crate::terms::{scope_of, value_of};
+use crate::terms::{Terms, with_choice};
+use bays::has;
 use books::book::Book;
 use prices::price::Price;
 
-// The least price of a term over the choices of the bays left, from a bay on.
-#[cycle(minima)]
-fn lowest<B: Book>(
-    book: &B,
-    choices: &[u8; 24],
-    lines: &[Line; 24],
-    scratch: &[B::Cost],
-    number: usize,
-    left: u32,
-    bay: usize,
-    plan: &[u8; 24],
-) -> B::Cost
-    requires inside { number < 112 }
-    requires upto { bay ≤ 24 }
-    requires ready { Ready (B.meaning book.now) choices.now lines.now }
-    requires legal { PlanOk choices.now plan.now }
-    requires opened { Open choices.now left }
-    ensures { result ≡ lowest_from B.Cost.ops (B.meaning book.now) choices.now lines.now scratch.now number left bay (byte_of plan.now) }
-{
-    if bay >= 24 {
-        return value_of(book, choices, lines, scratch, number, plan);
+impl<'a, B: Book> Terms<'a, B> {
+    // The least price of a term over the choices of the bays left, from a bay on.
+    #[cycle(minima)]
+    fn lowest(&self, number: usize, left: u32, bay: u8, plan: &[u8; 24]) -> B::Cost
+        requires inside { number < 112 }
+        requires upto { bay ≤ 24 }
+        requires legal { PlanOk self.now.choices.now plan.now }
+        requires opened { Open self.now.choices.now left }
+        ensures { result ≡ lowest_from B.Cost.ops (B.meaning self.now.book.now) self.now.choices.now self.now.lines.now self.now.cells.now number left bay (byte_of plan.now) }
+    {
+        if bay >= 24 {
+            return self.value(number, plan);
+        }
+        if has(left, bay) && has(self.scope(number), bay) {
+            self.lowest_over(number, left, bay, plan)
+        } else {
+            self.lowest(number, left, bay + 1, plan)
+        }
     }
-    if !holds(left, bay) {
-        return lowest(book, choices, lines, scratch, number, left, bay + 1, plan);
-    }
-    if !holds(scope_of(book, lines, number), bay) {
-        return lowest(book, choices, lines, scratch, number, left, bay + 1, plan);
-    }
-    lowest_over(
-        book,
-        choices,
-        lines,
-        scratch,
-        number,
-        left,
-        bay,
-        choices[bay],
-        plan,
-    )
-}
 
-// The same over the first n choices of that bay.
-#[cycle(minima)]
-fn lowest_over<B: Book>(
-    book: &B,
-    choices: &[u8; 24],
-    lines: &[Line; 24],
-    scratch: &[B::Cost],
-    number: usize,
-    left: u32,
-    bay: usize,
-    n: u8,
-    plan: &[u8; 24],
-) -> B::Cost
-    requires inside { number < 112 }
-    requires upto { bay < 24 }
-    requires some { 0 < n }
-    requires all { n ≤ slice_index choices.now bay }
-    requires ready { Ready (B.meaning book.now) choices.now lines.now }
-    requires legal { PlanOk choices.now plan.now }
-    requires opened { Open choices.now left }
-    ensures { result ≡ lowest_over_from B.Cost.ops (B.meaning book.now) choices.now lines.now scratch.now number left bay n (byte_of plan.now) }
-{
-    let mut next = *plan;
-    next[bay] = n - 1;
-    let last = lowest(book, choices, lines, scratch, number, left, bay + 1, &next);
-    if n == 1 {
-        return last;
+    // The same over the choices of that bay.
+    #[cycle(minima)]
+    fn lowest_over(&self, number: usize, left: u32, bay: u8, plan: &[u8; 24]) -> B::Cost
+        requires inside { number < 112 }
+        requires upto { bay < 24 }
+        requires some { 0 < slice_index self.now.choices.now bay }
+        requires legal { PlanOk self.now.choices.now plan.now }
+        requires opened { Open self.now.choices.now left }
+        ensures { result ≡ lowest_over_from B.Cost.ops (B.meaning self.now.book.now) self.now.choices.now self.now.lines.now self.now.cells.now number left bay (slice_index self.now.choices.now bay) (byte_of plan.now) }
+    {
+        let mut best = self.lowest(number, left, bay + 1, &with_choice(plan, bay, 0));
+        for choice in 1..self.choices[bay as usize] {
+            let price = self.lowest(number, left, bay + 1, &with_choice(plan, bay, choice));
+            if !best.at_most(price) {
+                best = price;
+            }
+        }
+        best
     }
-    let best = lowest_over(
-        book,
-        choices,
-        lines,
-        scratch,
-        number,
-        left,
-        bay,
-        n - 1,
-        plan,
-    );
-    if best.at_most(last) { best } else { last }
-}
 
-// The floor: the least prices of the terms in force, from a number on, combined.
-pub(crate) fn floor_of<B: Book>(
-    book: &B,
-    choices: &[u8; 24],
-    lines: &[Line; 24],
-    scratch: &[B::Cost],
-    force: &[bool; 112],
-    left: u32,
-    plan: &[u8; 24],
-    number: usize,
-) -> B::Cost
-    requires upto { number ≤ 112 }
-    requires ready { Ready (B.meaning book.now) choices.now lines.now }
-    requires legal { PlanOk choices.now plan.now }
-    requires opened { Open choices.now left }
-    ensures { result ≡ floor_from B.Cost.ops (B.meaning book.now) choices.now lines.now scratch.now force.now left (byte_of plan.now) number }
-{
-    if number >= 112 {
-        return B::Cost::free();
+    // The floor: the least prices of the terms in force, combined.
+    pub(crate) fn floor(&self, force: &[bool; 112], left: u32, plan: &[u8; 24]) -> B::Cost
+        requires legal { PlanOk self.now.choices.now plan.now }
+        requires opened { Open self.now.choices.now left }
+        ensures { result ≡ floor_from B.Cost.ops (B.meaning self.now.book.now) self.now.choices.now self.now.lines.now self.now.cells.now force.now left (byte_of plan.now) 0 }
+    {
+        let mut total = B::Cost::free();
+        for number in (0..112).rev() {
+            if force[number] {
+                total = self.lowest(number, left, 0, plan).combine(total);
+            }
+        }
+        total
     }
-    let rest = floor_of(book, choices, lines, scratch, force, left, plan, number + 1);
-    if !force[number] {
-        return rest;
-    }
-    lowest(book, choices, lines, scratch, number, left, 0, plan).combine(rest)
 }

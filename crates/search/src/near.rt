@@ -1,90 +1,53 @@
 // The neighbours of the bays that remain, and the terms in force once one is folded.
 ghost use Rattle.std.specs.Prelude.{◌≡◌, ℕ, ◌+◌, ◌-◌, ◌<◌, ◌≤◌, slice_index};
-ghost use Rattle.model.specs.Sets.{has};
+ghost use Rattle.model.specs.Sets.{has as has_of};
 ghost use Rattle.search.specs.Force.{flag, shares};
-ghost use Rattle.search.specs.Visit.{is_near, after};
+ghost use Rattle.search.specs.Visit.{Nears, after};
 
-use crate::places::holds;
-use crate::state::Line;
-use crate::terms::scope_of;
-use bays::without;
+use crate::terms::Terms;
+use bays::{has, without};
 use books::book::Book;
+use std::array;
 
-// The bays that share a term in force, from a number on, with a bay.
-fn touched<B: Book>(
-    book: &B,
-    lines: &[Line; 24],
-    force: &[bool; 112],
-    bay: usize,
-    number: usize,
-) -> u32
-    requires upto { number ≤ 112 }
-    requires bay { bay < 24 }
-    ensures { (i : ℕ) → has result i ≡ shares (B.meaning book.now) lines.now force.now bay number i }
-{
-    if number >= 112 {
-        return 0;
-    }
-    let rest = touched(book, lines, force, bay, number + 1);
-    if !force[number] {
-        return rest;
-    }
-    let scope = scope_of(book, lines, number);
-    if !holds(scope, bay) {
-        return rest;
-    }
-    scope | rest
-}
-
-// The neighbours of a bay: the other remaining bays that share a term in force with it.
-fn near_of<B: Book>(
-    book: &B,
-    lines: &[Line; 24],
-    force: &[bool; 112],
-    remaining: u32,
-    bay: usize,
-) -> u32
-    requires { bay < 24 }
-    ensures { (i : ℕ) → has result i ≡ is_near (B.meaning book.now) lines.now force.now remaining bay i }
-{
-    let all = touched(book, lines, force, bay, 0) & remaining;
-    without(all, bay as u8)
-}
-
-// The neighbours of each bay.
-pub(crate) fn nears<B: Book>(
-    book: &B,
-    lines: &[Line; 24],
-    force: &[bool; 112],
-    remaining: u32,
-) -> [u32; 24]
-    ensures { (bay i : ℕ) → bay < 24 → has (slice_index result bay) i ≡ is_near (B.meaning book.now) lines.now force.now remaining bay i }
-{
-    let mut out = [0u32; 24];
-    for n in 0..24 {
-        out[n] = near_of(book, lines, force, remaining, n);
-    }
-    out
-}
-
-// The terms in force once a bay is folded: those that do not touch it, and its table.
-pub(crate) fn folded_force<B: Book>(
-    book: &B,
-    lines: &[Line; 24],
-    force: &[bool; 112],
-    bay: usize,
-    depth: usize,
-) -> [bool; 112]
-    requires bay { bay < 24 }
-    requires deep { depth < 24 }
-    ensures { (j : ℕ) → flag result j ≡ after (B.meaning book.now) lines.now force.now bay depth j }
-{
-    let mut out = *force;
-    for j in 0..112 {
-        if holds(scope_of(book, lines, j), bay) {
-            out[j] = false;
+impl<'a, B: Book> Terms<'a, B> {
+    // The bays that share a term in force with a bay.
+    fn touched(&self, force: &[bool; 112], bay: u8) -> u32
+        requires { bay < 24 }
+        ensures { (i : ℕ) → has_of result i ≡ shares (B.meaning self.now.book.now) self.now.lines.now force.now bay 0 i }
+    {
+        let mut bays = 0;
+        for number in (0..112).rev() {
+            let scope = self.scope(number);
+            if force[number] && has(scope, bay) {
+                bays |= scope;
+            }
         }
+        bays
     }
-    out[88 + depth] = true;
-    out
+
+    // The neighbours of a bay: the other remaining bays that share a term in force with it.
+    fn near(&self, force: &[bool; 112], remaining: u32, bay: u8) -> u32
+        requires { bay < 24 }
+        ensures { Nears (B.meaning self.now.book.now) self.now.lines.now force.now remaining bay result }
+    {
+        without(self.touched(force, bay) & remaining, bay)
+    }
+
+    // The neighbours of each bay.
+    pub(crate) fn nears(&self, force: &[bool; 112], remaining: u32) -> [u32; 24]
+        ensures { (bay : ℕ) → bay < 24 → Nears (B.meaning self.now.book.now) self.now.lines.now force.now remaining bay (slice_index result bay) }
+    {
+        array::from_fn(|bay| self.near(force, remaining, bay as u8))
+    }
+
+    // The terms in force once a bay is folded: those that do not touch it, and its table.
+    pub(crate) fn folded_force(&self, force: &[bool; 112], bay: u8, depth: usize) -> [bool; 112]
+        requires bay { bay < 24 }
+        requires deep { depth < 24 }
+        ensures { (j : ℕ) → flag result j ≡ after (B.meaning self.now.book.now) self.now.lines.now force.now bay depth j }
+    {
+        let mut after = array::from_fn(|number| force[number] && !has(self.scope(number), bay));
+        after[88 + depth] = true;
+        after
+    }
 }

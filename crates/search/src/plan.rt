@@ -1,83 +1,104 @@
 // The search of a book, as one call.
-ghost use Rattle.std.specs.Prelude.{◌≡◌, ℕ, ◌≤◌, true, not, ◌&&◌, ltb, length, pos, negsuc, if◌then◌else◌, Some, None, int_le, nat_lt, slice_index};
+ghost use Rattle.std.specs.Prelude.{◌≡◌, ℕ, ◌≤◌, true, false, length, MatchResult, slice_index};
 ghost use Rattle.course.specs.Views.{answers_of};
 ghost use Rattle.model.specs.Course.{course_in, forecast};
+ghost use Rattle.model.specs.Search.{Sofar};
 ghost use Rattle.model.specs.Searched.{search_in};
 ghost use Rattle.search.specs.Promise.{Promise};
-ghost use Rattle.search.specs.Start.{ended as ended_of, outcome_of, bytes_of, allowed, reply, bytes_after};
+ghost use Rattle.search.specs.Start.{Ends, outcome_of, bytes_of, taken, allowed, answered, reply, bytes_after};
+ghost use Rattle.refusals.specs.declared.Refusal.TheVariants.{BadSetting};
 
 use crate::answer::{Ended, Planned};
-use crate::start::{blank_lines, choices_of, first_bays, open_search, start_force};
+use crate::start::{blank_lines, start_force};
+use crate::state::{AtLimit, Given, Left, Search};
+use bays::first;
 use books::book::Book;
+use course::bound::Bound;
+use course::start::tries;
 use pickers::picker::Picker;
 use prices::price::Price;
 use refusals::Refusal;
 
-// The whole search.
+// The whole search, under settings that are taken.
 fn run<P: Price, B: Book<Cost = P>, K: Picker>(
     book: &B,
     picker: &K,
-    k: i8,
+    k: Bound,
     limit: u32,
     ceiling: P,
     scratch: &mut [P],
 ) -> Ended<P>
-    requires { int_le k (pos 4) ≡ true }
-    ensures { ended_of result ≡ search_in P.ops (B.meaning book.now) (answers_of (K.answer picker.now)) k limit (length scratch.old) ceiling }
+    ensures { Ends result (search_in P.ops (B.meaning book.now) (answers_of (K.answer picker.now)) k.k limit (length scratch.old) ceiling) }
 {
     let bays = book.bays();
     let force = start_force(bays, book.rules());
-    let mut s = open_search(choices_of(book), blank_lines(force), k, limit, ceiling);
-    let stopped = s.visit(book, picker, first_bays(bays), &force, 0, scratch);
-    Ended {
-        best: s.best,
-        found: s.found,
-        plan: s.plan,
-        count: s.count,
-        stopped,
-    }
-}
-
-// Writes the first n bytes of a plan.
-fn write_plan(bytes: &mut [u8], plan: &[u8; 24], n: usize)
-    requires few { n ≤ 24 }
-    requires room { n ≤ length bytes.old }
-    ensures { (i : ℕ) → slice_index bytes.new i ≡ (if ltb i n then slice_index plan.now i else slice_index bytes.old i) }
-{
-    for b in 0..n {
-        bytes[b] = plan[b];
-    }
+    let mut search = Search {
+        choices: tries(book),
+        lines: blank_lines(),
+        depth: 0,
+        best: ceiling,
+        plan: None,
+        count: 0,
+        limit,
+        k,
+    };
+    let left = Left {
+        remaining: first(bays),
+        force: &force,
+        used: 0,
+    };
+    let visited = search.visit(&Given { book, picker }, &left, scratch);
+    search.end(visited)
 }
 
 // The answer of a search that has ended. Only a plan that was found is written, one byte for each bay.
 fn told<P: Price>(end: Ended<P>, bays: usize, bytes: &mut [u8]) -> Planned<P>
     requires few { bays ≤ 24 }
     requires room { bays ≤ length bytes.old }
-    ensures answers { result ≡ outcome_of (ended_of end) }
-    ensures bytes { (i : ℕ) → slice_index bytes.new i ≡ bytes_of (ended_of end) bays bytes.old i }
+    ensures answers { (s : Sofar P) → Ends end s → result ≡ outcome_of s }
+    ensures bytes { (s : Sofar P) (i : ℕ) → Ends end s → slice_index bytes.new i ≡ bytes_of s bays bytes.old i }
 {
-    if end.stopped {
-        return Planned::Stopped { visits: end.count };
-    }
-    if !end.found {
-        return Planned::NoPlan { visits: end.count };
-    }
-    write_plan(bytes, &end.plan, bays);
-    Planned::Found {
-        price: end.best,
-        visits: end.count,
+    let visits = end.visits;
+    match end.best {
+        Err(AtLimit) => Planned::Stopped { visits },
+        Ok(None) => Planned::NoPlan { visits },
+        Ok(Some(best)) => {
+            bytes[..bays].copy_from_slice(&best.plan[..bays]);
+            Planned::Found {
+                price: best.price,
+                visits,
+            }
+        }
     }
 }
 
 // k, if the settings are taken: k from -1 to 4, some visit allowed, and a byte for each bay.
-fn settings(k: i64, limit: u32, bays: usize, room: usize) -> Option<i8>
-    ensures { result ≡ (if (int_le (negsuc 0) k && int_le k (pos 4)) && (nat_lt 0 limit && not (nat_lt room bays)) then Some k else None) }
+fn settings(k: i64, limit: u32, bays: usize, room: usize) -> Result<Bound, Refusal>
+    ensures { MatchResult result (λ b. (taken k limit bays room ≡ true) × (b.k ≡ k)) (λ e. (taken k limit bays room ≡ false) × (e ≡ BadSetting)) }
 {
-    if k >= -1 && k <= 4 && limit > 0 && room >= bays {
-        Some(k as i8)
-    } else {
-        None
+    if limit == 0 || room < bays {
+        return Err(Refusal::BadSetting);
     }
+    Bound::try_from(k)
+}
+
+// The search under settings and a ceiling that are taken, or why it is refused. Its parameters are those of `plan`.
+fn searched<P: Price, B: Book<Cost = P>, K: Picker>(
+    book: &B,
+    picker: &K,
+    k: i64,
+    limit: u32,
+    ceiling: P::Offer,
+    scratch: &mut [P],
+    bytes: &mut [u8],
+) -> Result<Planned<P>, Refusal>
+    ensures answers { answered result ≡ reply P.ops (B.meaning book.now) (K.answer picker.now) k limit (length scratch.old) (length bytes.old) (P.accepts ceiling) }
+    ensures bytes { (i : ℕ) → slice_index bytes.new i ≡ bytes_after P.ops (B.meaning book.now) (K.answer picker.now) k limit (length scratch.old) (length bytes.old) (P.accepts ceiling) bytes.old i }
+{
+    let bays = book.bays();
+    let k = settings(k, limit, bays, bytes.len())?;
+    let ceiling = P::accept(ceiling).ok_or(Refusal::BadCell)?;
+    Ok(told(run(book, picker, k, limit, ceiling, scratch), bays, bytes))
 }
 
 // Searches a book for its cheapest plan below the offered ceiling, with at most so many visits. A plan that is found is
@@ -97,12 +118,8 @@ pub fn plan<P: Price, B: Book<Cost = P>, K: Picker>(
     ensures bytes { (i : ℕ) → slice_index bytes.new i ≡ bytes_after P.ops (B.meaning book.now) (K.answer picker.now) k limit (length scratch.old) (length bytes.old) (P.accepts ceiling) bytes.old i }
     ensures promise { Promise P.ops (B.meaning book.now) (allowed (B.meaning book.now) k limit (length bytes.old)) (P.accepts ceiling) (forecast (course_in (B.meaning book.now) (answers_of (K.answer picker.now)) k (length scratch.old))) limit bytes.new result }
 {
-    let bays = book.bays();
-    let Some(k) = settings(k, limit, bays, bytes.len()) else {
-        return Planned::Refused(Refusal::BadSetting);
-    };
-    let Some(ceiling) = P::accept(ceiling) else {
-        return Planned::Refused(Refusal::BadCell);
-    };
-    told(run(book, picker, k, limit, ceiling, scratch), bays, bytes)
+    match searched(book, picker, k, limit, ceiling, scratch, bytes) {
+        Ok(planned) => planned,
+        Err(refusal) => Planned::Refused(refusal),
+    }
 }

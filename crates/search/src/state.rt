@@ -1,16 +1,28 @@
 // What a search has at any moment: a line for each bay passed, and the best plan so far.
 ghost use Rattle.std.specs.Prelude.{◌≡◌, ◌≤◌, length};
+ghost use Rattle.search.specs.Force.{Sound, Sound_prop};
 
-// A bay passed: the choice being tried, or, of a folded bay, the terms in force before it and where its table is.
+use crate::decide::Table;
+use course::bound::Bound;
+
+// A bay passed.
 #[derive(Clone, Copy)]
 pub(crate) struct Line {
     pub(crate) bay: u8,
-    pub(crate) choice: u8,
-    pub(crate) folded: bool,
-    pub(crate) force: [bool; 112],
-    pub(crate) scope: u32,
-    pub(crate) offset: usize,
-    pub(crate) size: usize,
+    pub(crate) passed: Passed,
+}
+
+// How a bay was passed: the choice being tried, or the terms in force before its fold, its table, and where that begins.
+#[derive(Clone, Copy)]
+pub(crate) enum Passed {
+    Branched {
+        choice: u8,
+    },
+    Folded {
+        force: [bool; 112],
+        table: Table,
+        offset: usize,
+    },
 }
 
 #[derive(Drop)]
@@ -19,12 +31,31 @@ pub(crate) struct Search<P> {
     pub(crate) lines: [Line; 24],
     pub(crate) depth: usize,
     pub(crate) best: P,
-    pub(crate) found: bool,
-    pub(crate) plan: [u8; 24],
+    pub(crate) plan: Option<[u8; 24]>,
     pub(crate) count: u32,
     pub(crate) limit: u32,
-    pub(crate) k: i8,
+    pub(crate) k: Bound,
     ghost within: { count ≤ limit },
     ghost long: { length lines ≡ 24 },
     ghost wide: { length choices ≡ 24 },
+    ghost sound: { Sound choices lines } by { Sound_prop choices lines },
+}
+
+// The visit limit is reached, and a further visit was to be made.
+#[derive(Clone, Copy, Debug)]
+pub(crate) struct AtLimit;
+
+// What a search goes by: a book, and who picks the bays.
+#[derive(Clone, Copy)]
+pub(crate) struct Given<'a, B, K> {
+    pub(crate) book: &'a B,
+    pub(crate) picker: &'a K,
+}
+
+// What is left to a visit: the bays that remain, the terms in force, and how many cells are used.
+#[derive(Clone, Copy)]
+pub(crate) struct Left<'a> {
+    pub(crate) remaining: u32,
+    pub(crate) force: &'a [bool; 112],
+    pub(crate) used: usize,
 }

@@ -3,12 +3,13 @@ ghost use Rattle.std.specs.Prelude.{◌≡◌, ℕ, ◌+◌, ◌-◌, ◌*◌, �
 ghost use Rattle.model.specs.Lists.{product};
 ghost use Rattle.model.specs.Sets.{has};
 ghost use Rattle.model.specs.Terms.{least};
-ghost use Rattle.search.specs.Force.{Ready, Under, trial};
+ghost use Rattle.search.specs.Force.{Fits, Under, trial};
 ghost use Rattle.search.specs.Places.{bays_from, byte_of, decoded as decoded_of, Open, PlanOk, Few};
 
+use crate::decide::Table;
 use crate::places::decoded;
-use crate::settle::settle;
-use crate::state::Line;
+use crate::state::{Left, Search};
+use crate::terms::Terms;
 use books::book::Book;
 use prices::price::Price;
 
@@ -28,45 +29,42 @@ fn add_cell<P: Price>(scratch: &mut [P], at: usize, cell: P)
     store(&mut scratch[at..], cell);
 }
 
-// Writes the table of a bay, over its neighbours, after the used cells, which stay: each cell is the least that the bay's
-// terms cost over its choices.
-pub(crate) fn fill<B: Book>(
-    book: &B,
-    choices: &[u8; 24],
-    lines: &[Line; 24],
-    scratch: &mut [B::Cost],
-    force: &[bool; 112],
-    bay: usize,
-    near: u32,
-    used: usize,
-    size: usize,
-    plan: &[u8; 24],
-)
-    requires bay { bay < 24 }
-    requires some { 0 < slice_index choices.now bay }
-    requires few { Few choices.now }
-    requires ready { Ready (B.meaning book.now) choices.now lines.now }
-    requires legal { PlanOk choices.now plan.now }
-    requires opened { Open choices.now near }
-    requires short { length (bays_from near 0) ≤ 4 }
-    requires whole { size ≡ product (byte_of choices.now) (bays_from near 0) }
-    requires room { used + size ≤ length scratch.old }
-    requires under { Under lines.now force.now used }
-    ensures kept { take used scratch.new ≡ take used scratch.old }
-    ensures table { (k : ℕ) → k < size → slice_index_or scratch.new (used + k) B.Cost.ops.forbidden ≡ least B.Cost.ops (slice_index choices.now bay) (trial B.Cost.ops (B.meaning book.now) choices.now lines.now scratch.old force.now bay (byte_of (decoded_of choices.now (has near) 0 24 k plan.now))) }
-{
-    for place in 0..size {
-        let spot = decoded(choices, near, 0, place, *plan);
-        let value = settle(
-            book,
-            choices,
-            lines,
-            scratch,
-            force,
-            bay,
-            choices[bay],
-            &spot,
-        );
-        add_cell(scratch, used + place, value.0);
+impl<P: Price> Search<P> {
+    // Writes the table of a bay, over its neighbours, after the used cells, which stay: each cell is the least that the
+    // bay's terms cost over its choices. A cell is worked out by reading the scratch, which is lent anew to store it, so
+    // the cells are counted.
+    pub(crate) fn fill<B: Book<Cost = P>>(
+        &self,
+        book: &B,
+        scratch: &mut [P],
+        left: &Left,
+        bay: u8,
+        table: Table,
+        plan: &[u8; 24],
+    )
+        requires bay { bay < 24 }
+        requires some { 0 < slice_index self.now.choices bay }
+        requires few { Few self.now.choices }
+        requires fits { Fits (B.meaning book.now) self.now.choices }
+        requires legal { PlanOk self.now.choices plan.now }
+        requires opened { Open self.now.choices table.near }
+        requires short { length (bays_from table.near 0) ≤ 4 }
+        requires whole { table.size ≡ product (byte_of self.now.choices) (bays_from table.near 0) }
+        requires room { left.now.used + table.size ≤ length scratch.old }
+        requires under { Under self.now.lines left.now.force.now left.now.used }
+        ensures kept { take left.now.used scratch.new ≡ take left.now.used scratch.old }
+        ensures table { (k : ℕ) → k < table.size → slice_index_or scratch.new (left.now.used + k) P.ops.forbidden ≡ least P.ops (slice_index self.now.choices bay) (trial P.ops (B.meaning book.now) self.now.choices self.now.lines scratch.old left.now.force.now bay (byte_of (decoded_of self.now.choices (has table.near) 0 24 k plan.now))) }
+    {
+        for place in 0..table.size {
+            let spot = decoded(&self.choices, table.near, place, *plan);
+            let terms = Terms {
+                book,
+                choices: &self.choices,
+                lines: &self.lines,
+                cells: scratch,
+            };
+            let cell = terms.settle(left.force, bay, &spot).0;
+            add_cell(scratch, left.used + place, cell);
+        }
     }
 }

@@ -1,22 +1,19 @@
 // The visits of a search.
-ghost use Rattle.std.specs.Prelude.{◌≡◌, ℕ, ◌+◌, ◌-◌, ◌^◌, ◌<◌, ◌≤◌, true, false, length, take, slice_index};
+ghost use Rattle.std.specs.Prelude.{◌≡◌, ℕ, ◌+◌, ◌-◌, ◌^◌, ◌<◌, ◌≤◌, true, false, length, take, slice_index, is_err};
 ghost use Rattle.course.specs.Views.{answers_of};
 ghost use Rattle.model.specs.Course.{drop_bay};
 ghost use Rattle.model.specs.Lists.{member, product};
 ghost use Rattle.model.specs.Search.{arrived};
 ghost use Rattle.model.specs.Sets.{has};
 ghost use Rattle.model.specs.Terms.{read};
-ghost use Rattle.search.specs.Force.{line_at, Sound};
+ghost use Rattle.search.specs.Force.{line_at};
 ghost use Rattle.search.specs.Places.{bays_from, byte_of, Open};
 ghost use Rattle.search.specs.Visit.{State, Framed, sofar, visited, passing, folding, branching, folds_of, set_in, is_near};
 
-use crate::back::read_back;
 use crate::choices::choices_set;
-use crate::decide::{Decision, decide_step};
-use crate::floor::floor_of;
-use crate::near::folded_force;
-use crate::state::{Line, Search};
-use crate::table::fill;
+use crate::decide::{Table, decide_step};
+use crate::state::{AtLimit, Given, Left, Line, Passed, Search};
+use crate::terms::Terms;
 use bays::without;
 use books::book::Book;
 use pickers::picker::Picker;
@@ -24,92 +21,84 @@ use prices::price::Price;
 
 impl<P: Price> Search<P> {
     // No bay remains: the floor becomes the best, and the plan is read back.
-    fn arrive<B: Book<Cost = P>>(
-        &mut self,
-        book: &B,
-        used: usize,
-        force: &[bool; 112],
-        floor: P,
-        scratch: &[P],
-    )
-        requires ok { State (B.meaning book.now) self.old self.old.depth 0 force.now used (length scratch.now) }
+    fn arrive<B: Book<Cost = P>>(&mut self, book: &B, left: &Left, floor: P, scratch: &[P])
+        requires ok { State (B.meaning book.now) self.old self.old.depth left.now.remaining left.now.force.now left.now.used (length scratch.now) }
         ensures state { sofar self.new false ≡ arrived floor (read P.ops (byte_of self.old.choices) (folds_of P.ops (B.meaning book.now) self.old.choices self.old.lines scratch.now self.old.depth) (set_in self.old.lines self.old.depth)) (sofar self.old false) }
         ensures framed { Framed self.old.depth self.old self.new }
         ensures lines { self.new.lines ≡ self.old.lines }
     {
         let set = choices_set(&self.lines, self.depth);
-        let plan = read_back(book, &self.choices, &self.lines, scratch, self.depth, set);
+        let terms = Terms {
+            book,
+            choices: &self.choices,
+            lines: &self.lines,
+            cells: scratch,
+        };
+        let plan = terms.read_back(self.depth, set);
         self.best = floor;
-        self.found = true;
-        self.plan = plan;
+        self.plan = Some(plan);
     }
 
-    // One visit; true where the search has stopped.
+    // One visit; an error where the limit is reached.
     #[cycle(visits)]
     pub(crate) fn visit<B: Book<Cost = P>, K: Picker>(
         &mut self,
-        book: &B,
-        picker: &K,
-        remaining: u32,
-        force: &[bool; 112],
-        used: usize,
+        given: &Given<B, K>,
+        left: &Left,
         scratch: &mut [P],
-    ) -> bool
-        requires ok { State (B.meaning book.now) self.old self.old.depth remaining force.now used (length scratch.old) }
-        ensures state { (n : ℕ) → length (bays_from remaining 0) ≤ n → sofar self.new result ≡ visited P.ops (B.meaning book.now) (answers_of (K.answer picker.now)) self.old remaining force.now used scratch.old n (sofar self.old false) }
+    ) -> Result<(), AtLimit>
+        requires ok { State (B.meaning given.now.book.now) self.old self.old.depth left.now.remaining left.now.force.now left.now.used (length scratch.old) }
+        ensures state { (n : ℕ) → length (bays_from left.now.remaining 0) ≤ n → sofar self.new (is_err result) ≡ visited P.ops (B.meaning given.now.book.now) (answers_of (K.answer given.now.picker.now)) self.old left.now.remaining left.now.force.now left.now.used scratch.old n (sofar self.old false) }
         ensures framed { Framed self.old.depth self.old self.new }
-        ensures sound { Sound self.new.choices self.new.lines }
-        ensures cells { take used scratch.new ≡ take used scratch.old }
+        ensures cells { take left.now.used scratch.new ≡ take left.now.used scratch.old }
     {
         if self.count == self.limit {
-            return true;
+            return Err(AtLimit);
         }
         self.count += 1;
         let set = choices_set(&self.lines, self.depth);
-        let floor = floor_of(
-            book,
-            &self.choices,
-            &self.lines,
-            scratch,
-            force,
-            remaining,
-            &set,
-            0,
-        );
+        let terms = Terms {
+            book: given.book,
+            choices: &self.choices,
+            lines: &self.lines,
+            cells: scratch,
+        };
+        let floor = terms.floor(left.force, left.remaining, &set);
         if self.best.at_most(floor) {
-            return false;
+            return Ok(());
         }
-        if remaining == 0 {
-            self.arrive(book, used, force, floor, scratch);
-            return false;
+        if left.remaining == 0 {
+            self.arrive(given.book, left, floor, scratch);
+            return Ok(());
         }
-        self.pass(book, picker, remaining, force, used, scratch)
+        self.pass(given, left, scratch)
     }
 
     // A bay is picked, and folded or branched.
     #[cycle(visits)]
     fn pass<B: Book<Cost = P>, K: Picker>(
         &mut self,
-        book: &B,
-        picker: &K,
-        remaining: u32,
-        force: &[bool; 112],
-        used: usize,
+        given: &Given<B, K>,
+        left: &Left,
         scratch: &mut [P],
-    ) -> bool
-        requires ok { State (B.meaning book.now) self.old self.old.depth remaining force.now used (length scratch.old) }
-        requires some { 0 < remaining }
-        ensures state { (n : ℕ) → length (bays_from remaining 0) ≤ n + 1 → sofar self.new result ≡ passing P.ops (B.meaning book.now) (answers_of (K.answer picker.now)) self.old remaining force.now used scratch.old n (sofar self.old false) }
+    ) -> Result<(), AtLimit>
+        requires ok { State (B.meaning given.now.book.now) self.old self.old.depth left.now.remaining left.now.force.now left.now.used (length scratch.old) }
+        requires some { 0 < left.now.remaining }
+        ensures state { (n : ℕ) → length (bays_from left.now.remaining 0) ≤ n + 1 → sofar self.new (is_err result) ≡ passing P.ops (B.meaning given.now.book.now) (answers_of (K.answer given.now.picker.now)) self.old left.now.remaining left.now.force.now left.now.used scratch.old n (sofar self.old false) }
         ensures framed { Framed self.old.depth self.old self.new }
-        ensures sound { Sound self.new.choices self.new.lines }
-        ensures cells { take used scratch.new ≡ take used scratch.old }
+        ensures cells { take left.now.used scratch.new ≡ take left.now.used scratch.old }
     {
-        let next = decide_step(self, book, picker, remaining, force, used, scratch);
-        let rest = without(remaining, next.bay);
-        if next.fold {
-            self.fold_bay(book, picker, remaining, rest, force, used, scratch, next)
-        } else {
-            self.branch_bay(book, picker, rest, force, used, scratch, next.bay)
+        let next = decide_step(self, given, left, scratch);
+        let rest = without(left.remaining, next.bay);
+        match next.table {
+            Some(table) => self.fold_bay(given, left, rest, scratch, next.bay, table),
+            None => {
+                let left = Left {
+                    remaining: rest,
+                    ..*left
+                };
+                self.branch_bay(given, &left, scratch, next.bay)
+            }
         }
     }
 
@@ -117,126 +106,100 @@ impl<P: Price> Search<P> {
     #[cycle(visits)]
     fn fold_bay<B: Book<Cost = P>, K: Picker>(
         &mut self,
-        book: &B,
-        picker: &K,
-        remaining: u32,
+        given: &Given<B, K>,
+        left: &Left,
         rest: u32,
-        force: &[bool; 112],
-        used: usize,
         scratch: &mut [P],
-        next: Decision,
-    ) -> bool
-        requires ok { State (B.meaning book.now) self.old self.old.depth remaining force.now used (length scratch.old) }
-        requires remains { member next.bay (bays_from remaining 0) ≡ true }
-        requires rests { bays_from rest 0 ≡ drop_bay next.bay (bays_from remaining 0) }
+        bay: u8,
+        table: Table,
+    ) -> Result<(), AtLimit>
+        requires ok { State (B.meaning given.now.book.now) self.old self.old.depth left.now.remaining left.now.force.now left.now.used (length scratch.old) }
+        requires remains { member bay (bays_from left.now.remaining 0) ≡ true }
+        requires rests { bays_from rest 0 ≡ drop_bay bay (bays_from left.now.remaining 0) }
         requires opened { Open self.old.choices rest }
         requires small { rest < 2 ^ 24 }
-        requires nears { (i : ℕ) → has next.near i ≡ is_near (B.meaning book.now) self.old.lines force.now remaining next.bay i }
-        requires short { length (bays_from next.near 0) ≤ 4 }
-        requires whole { next.size ≡ product (byte_of self.old.choices) (bays_from next.near 0) }
-        requires fits { next.size ≤ length scratch.old - used }
-        ensures state { (n : ℕ) → length (bays_from rest 0) ≤ n → sofar self.new result ≡ folding P.ops (B.meaning book.now) (answers_of (K.answer picker.now)) self.old rest force.now used scratch.old next.bay next.size n (sofar self.old false) }
+        requires nears { (i : ℕ) → has table.near i ≡ is_near (B.meaning given.now.book.now) self.old.lines left.now.force.now left.now.remaining bay i }
+        requires short { length (bays_from table.near 0) ≤ 4 }
+        requires whole { table.size ≡ product (byte_of self.old.choices) (bays_from table.near 0) }
+        requires fits { table.size ≤ length scratch.old - left.now.used }
+        ensures state { (n : ℕ) → length (bays_from rest 0) ≤ n → sofar self.new (is_err result) ≡ folding P.ops (B.meaning given.now.book.now) (answers_of (K.answer given.now.picker.now)) self.old rest left.now.force.now left.now.used scratch.old bay table.size n (sofar self.old false) }
         ensures framed { Framed self.old.depth self.old self.new }
-        ensures sound { Sound self.new.choices self.new.lines }
-        ensures cells { take used scratch.new ≡ take used scratch.old }
+        ensures cells { take left.now.used scratch.new ≡ take left.now.used scratch.old }
     {
-        let bay = next.bay as usize;
         let set = choices_set(&self.lines, self.depth);
-        fill(
-            book,
-            &self.choices,
-            &self.lines,
-            scratch,
-            force,
-            bay,
-            next.near,
-            used,
-            next.size,
-            &set,
-        );
-        let after = folded_force(book, &self.lines, force, bay, self.depth);
+        self.fill(given.book, scratch, left, bay, table, &set);
+        let terms = Terms {
+            book: given.book,
+            choices: &self.choices,
+            lines: &self.lines,
+            cells: scratch,
+        };
+        let after = terms.folded_force(left.force, bay, self.depth);
         self.push(Line {
-            bay: next.bay,
-            choice: 0,
-            folded: true,
-            force: *force,
-            scope: next.near,
-            offset: used,
-            size: next.size,
+            bay,
+            passed: Passed::Folded {
+                force: *left.force,
+                table,
+                offset: left.used,
+            },
         });
-        let stopped = self.visit(book, picker, rest, &after, used + next.size, scratch);
+        let left = Left {
+            remaining: rest,
+            force: &after,
+            used: left.used + table.size,
+        };
+        let visited = self.visit(given, &left, scratch);
         self.pop();
-        stopped
+        visited
     }
 
-    // Each choice of the bay is tried in rising order.
+    // The choices of the bay are tried, on a line of its own.
     #[cycle(visits)]
     fn branch_bay<B: Book<Cost = P>, K: Picker>(
         &mut self,
-        book: &B,
-        picker: &K,
-        rest: u32,
-        force: &[bool; 112],
-        used: usize,
+        given: &Given<B, K>,
+        left: &Left,
         scratch: &mut [P],
         bay: u8,
-    ) -> bool
-        requires ok { State (B.meaning book.now) self.old self.old.depth rest force.now used (length scratch.old) }
-        requires deeper { self.old.depth + length (bays_from rest 0) < 24 }
+    ) -> Result<(), AtLimit>
+        requires ok { State (B.meaning given.now.book.now) self.old self.old.depth left.now.remaining left.now.force.now left.now.used (length scratch.old) }
+        requires deeper { self.old.depth + length (bays_from left.now.remaining 0) < 24 }
         requires inside { bay < 24 }
-        ensures state { (n : ℕ) → length (bays_from rest 0) ≤ n → sofar self.new result ≡ branching P.ops (B.meaning book.now) (answers_of (K.answer picker.now)) self.old self.old.depth rest force.now used scratch.old bay (slice_index self.old.choices bay) n (sofar self.old false) }
+        ensures state { (n : ℕ) → length (bays_from left.now.remaining 0) ≤ n → sofar self.new (is_err result) ≡ branching P.ops (B.meaning given.now.book.now) (answers_of (K.answer given.now.picker.now)) self.old self.old.depth left.now.remaining left.now.force.now left.now.used scratch.old bay (slice_index self.old.choices bay) n (sofar self.old false) }
         ensures framed { Framed self.old.depth self.old self.new }
-        ensures sound { Sound self.new.choices self.new.lines }
-        ensures cells { take used scratch.new ≡ take used scratch.old }
+        ensures cells { take left.now.used scratch.new ≡ take left.now.used scratch.old }
     {
         self.push(Line {
             bay,
-            choice: 0,
-            folded: false,
-            force: *force,
-            scope: 0,
-            offset: 0,
-            size: 1,
+            passed: Passed::Branched { choice: 0 },
         });
-        let tries = self.choices[bay as usize];
-        let stopped = self.try_choices(book, picker, rest, force, used, scratch, bay, tries);
+        let visited = self.try_choices(given, left, scratch, bay);
         self.pop();
-        stopped
+        visited
     }
 
-    // The first n choices of the newest line's bay; true where the search has stopped.
+    // The choices of the newest line's bay, in rising order.
     #[cycle(visits)]
     fn try_choices<B: Book<Cost = P>, K: Picker>(
         &mut self,
-        book: &B,
-        picker: &K,
-        rest: u32,
-        force: &[bool; 112],
-        used: usize,
+        given: &Given<B, K>,
+        left: &Left,
         scratch: &mut [P],
         bay: u8,
-        n: u8,
-    ) -> bool
-        requires ok { State (B.meaning book.now) self.old (self.old.depth - 1) rest force.now used (length scratch.old) }
+    ) -> Result<(), AtLimit>
+        requires ok { State (B.meaning given.now.book.now) self.old (self.old.depth - 1) left.now.remaining left.now.force.now left.now.used (length scratch.old) }
         requires opens { 0 < self.old.depth }
-        requires newest { (line_at self.old.lines (self.old.depth - 1)).folded ≡ false }
-        requires newest_bay { (line_at self.old.lines (self.old.depth - 1)).bay ≡ bay }
+        requires newest { (line_at self.old.lines (self.old.depth - 1)).bay ≡ bay }
         requires inside { bay < 24 }
-        requires tries { n ≤ slice_index self.old.choices bay }
-        ensures state { (k : ℕ) → length (bays_from rest 0) ≤ k → sofar self.new result ≡ branching P.ops (B.meaning book.now) (answers_of (K.answer picker.now)) self.old (self.old.depth - 1) rest force.now used scratch.old bay n k (sofar self.old false) }
+        ensures state { (k : ℕ) → length (bays_from left.now.remaining 0) ≤ k → sofar self.new (is_err result) ≡ branching P.ops (B.meaning given.now.book.now) (answers_of (K.answer given.now.picker.now)) self.old (self.old.depth - 1) left.now.remaining left.now.force.now left.now.used scratch.old bay (slice_index self.old.choices bay) k (sofar self.old false) }
         ensures framed { Framed (self.old.depth - 1) self.old self.new }
-        ensures newest { (line_at self.new.lines (self.new.depth - 1)).folded ≡ false }
-        ensures newest_bay { (line_at self.new.lines (self.new.depth - 1)).bay ≡ bay }
-        ensures sound { Sound self.new.choices self.new.lines }
-        ensures cells { take used scratch.new ≡ take used scratch.old }
+        ensures newest { (line_at self.new.lines (self.new.depth - 1)).bay ≡ bay }
+        ensures cells { take left.now.used scratch.new ≡ take left.now.used scratch.old }
     {
-        if n == 0 {
-            return false;
+        for choice in 0..self.choices[bay as usize] {
+            self.advance(choice);
+            self.visit(given, left, scratch)?;
         }
-        if self.try_choices(book, picker, rest, force, used, scratch, bay, n - 1) {
-            return true;
-        }
-        self.advance(n - 1);
-        self.visit(book, picker, rest, force, used, scratch)
+        Ok(())
     }
 }

@@ -1,4 +1,3 @@
 pub mod Laws
 pub mod Closes
-pub mod Whole
 pub mod Racked

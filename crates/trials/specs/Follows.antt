@@ -11,7 +11,7 @@ use Rattle.trials.specs.declared.evening.Evening.{Evening}
 use Rattle.trials.specs.declared.evening.Marks.{Marks}
 use Rattle.trials.specs.declared.ticket.Ticket.{Ticket}
 use Rattle.trials.specs.declared.ticket.Returned.{Returned}
-use Rattle.trials.specs.Changes.{below_of, marks_of, blank}
+use Rattle.trials.specs.Changes.{below_of, marks_of, depth_of, blank}
 use Rattle.trials.specs.Sheet.{Call, Sheet, pinned, unpinned, suspended, resumed, opened, pin_of, off_of, openings, Ground, Reply, done, handed, refused, returned, reply, after}
 
 -- the pins and suspensions are the sheet's
@@ -34,8 +34,12 @@ pub record Follows {B P : Type 0} (meaning : B → Meaning P) (g : Ground P) (e 
   pub number : e.number ≡ g.number
   pub book : meaning (below_of e) ≡ g.book
   pub marks : Marked (marks_of e) s
-  pub depth : e.depth ≡ openings s
-  pub saved : (j : ℕ) → j < openings s → Marked (slice_index_or e.saved j blank) (before s j)
+  pub depth : depth_of e ≡ openings s
+  pub saved : (j : ℕ) → j < openings s → Marked (slice_index_or e.saved.items j blank) (before s j)
+
+-- this holds of every ground and sheet that the evening follows
+abbrev pub EachSheet : {B P : Type 0} → (B → Meaning P) → Evening B → (Ground P → Sheet → Type 0) → Type 0
+EachSheet {B} {P} meaning e Holds = (g : Ground P) (s : Sheet) → Follows meaning g e s → Holds g s
 
 -- the answer of a call as a reply
 abbrev pub of_mark : Result Unit Refusal → Reply
@@ -46,7 +50,7 @@ abbrev pub of_open : Result Ticket Refusal → Reply
 of_open (Ok t) = handed t.number t.depth
 of_open (Err e) = refused (number_of e)
 
-abbrev pub of_close : Result Unit Returned → Reply
+abbrev pub of_close : {T : Type 0} → Result T Returned → Reply
 of_close (Ok x) = done
 of_close (Err e) = returned (number_of e.refusal) e.ticket.number e.ticket.depth
 
@@ -57,7 +61,7 @@ pub record Answered {B P : Type 0} (meaning : B → Meaning P) (g : Ground P) (s
 
 -- so it is for every ground and sheet that the evening followed before
 abbrev pub BySheet : {B P : Type 0} → (B → Meaning P) → Call → Reply → Evening B → Evening B → Type 0
-BySheet {B} {P} meaning c said e e' = (g : Ground P) (s : Sheet) → Follows meaning g e s → Answered meaning g s c said e'
+BySheet meaning c said e e' = EachSheet meaning e (λ g s. Answered meaning g s c said e')
 
 -- what pins over suspensions over a book mean
 abbrev pub pile_book : {B P : Type 0} → Ops P → (B → Meaning P) → Pins (Suspensions B) → Meaning P

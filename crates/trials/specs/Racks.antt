@@ -1,5 +1,5 @@
 -- Calls with the tickets in a rack, by the call sheet.
-use Rattle.std.specs.Prelude.{◌≡◌, ℕ, Bool, true, false, cond, List, length, Some, None, Ok, Err, Option, Result, nat_lt, slice_index_or, slice_set}
+use Rattle.std.specs.Prelude.{◌≡◌, ℕ, cond, List, length, Some, None, Ok, Err, Option, Result, nat_lt, slice_index_or, slice_set}
 use Rattle.model.specs.Books.{Meaning}
 use Rattle.refusals.specs.Numbers.{number_of}
 use Rattle.trials.specs.declared.evening.Evening.{Evening}
@@ -7,10 +7,12 @@ use Rattle.trials.specs.declared.ticket.Ticket.{Ticket}
 use Rattle.trials.specs.declared.ticket.Returned.{Returned}
 use Rattle.trials.specs.declared.rack.Action.{Action}
 use Rattle.trials.specs.declared.rack.Action.TheVariants as act
+use Rattle.trials.specs.declared.rack.Ending.{Ending}
+use Rattle.trials.specs.declared.rack.Ending.TheVariants as end
 use Rattle.trials.specs.declared.rack.Outcome.{Outcome}
 use Rattle.trials.specs.declared.rack.Outcome.TheVariants as out
 use Rattle.trials.specs.Sheet.{Sheet, Call, Pin, Unpin, Suspend, Resume, Open, Keep, Drop, Ground, Reply, done, handed, refused, returned, reply, after}
-use Rattle.trials.specs.Follows.{Follows}
+use Rattle.trials.specs.Follows.{EachSheet, Follows}
 
 -- the tickets at hand, by place
 abbrev pub Rack : Type 0
@@ -20,18 +22,18 @@ abbrev pub ticket : ℕ → ℕ → Ticket
 ticket n d = record { number = n; depth = d }
 
 -- the end of a trial: a keep or a drop
-abbrev pub close : Bool → ℕ → ℕ → Call
-close true n d = Keep n d
-close false n d = Drop n d
+abbrev pub close : Ending → ℕ → ℕ → Call
+close end.Keep n d = Keep n d
+close end.Drop n d = Drop n d
 
 -- a trial is opened where there is a place for its ticket, and closed where there is a ticket
 abbrev pub opens : Option Ticket → Option Call
 opens None = Some Open
 opens (Some t) = None
 
-abbrev pub closes : Bool → Option Ticket → Option Call
-closes keeps None = None
-closes keeps (Some t) = Some (close keeps t.number t.depth)
+abbrev pub closes : Ending → Option Ticket → Option Call
+closes ending None = None
+closes ending (Some t) = Some (close ending t.number t.depth)
 
 -- the call that an action makes with the tickets at hand, if any
 abbrev pub made : Rack → Action → Option Call
@@ -40,8 +42,8 @@ made k (act.Unpin b) = Some (Unpin b)
 made k (act.Suspend r) = Some (Suspend r)
 made k (act.Resume r) = Some (Resume r)
 made k (act.Open i) = cond (nat_lt i (length k)) (opens (slice_index_or k i None)) None
-made k (act.Keep i) = cond (nat_lt i (length k)) (closes true (slice_index_or k i None)) None
-made k (act.Drop i) = cond (nat_lt i (length k)) (closes false (slice_index_or k i None)) None
+made k (act.Keep i) = cond (nat_lt i (length k)) (closes end.Keep (slice_index_or k i None)) None
+made k (act.Drop i) = cond (nat_lt i (length k)) (closes end.Drop (slice_index_or k i None)) None
 
 -- the ticket of an opening is put into its place
 abbrev pub filled : Rack → ℕ → Reply → Rack
@@ -94,13 +96,13 @@ pub record Acted {B P : Type 0} (meaning : B → Meaning P) (g : Ground P) (s : 
   pub rack : k' ≡ rack_by g s k c (made k c)
 
 abbrev pub ByRack : {B P : Type 0} → (B → Meaning P) → Evening B → Rack → Action → Outcome → Evening B → Rack → Type 0
-ByRack {B} {P} meaning e k c a e' k' = (g : Ground P) (s : Sheet) → Follows meaning g e s → Acted meaning g s k c a e' k'
+ByRack meaning e k c a e' k' = EachSheet meaning e (λ g s. Acted meaning g s k c a e' k')
 
 -- a place after its ticket was presented: a refused one is there again
 abbrev pub refilled : Option Ticket → Result Unit Returned → Option Ticket
 refilled o (Ok x) = o
 refilled o (Err e) = Some e.ticket
 
-abbrev pub closing_at : Bool → ℕ → Action
-closing_at true i = act.Keep i
-closing_at false i = act.Drop i
+abbrev pub closing_at : Ending → ℕ → Action
+closing_at end.Keep i = act.Keep i
+closing_at end.Drop i = act.Drop i

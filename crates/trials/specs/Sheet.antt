@@ -111,6 +111,15 @@ suspending m off r = cond (nat_lt r m.rules) (cond off (refused (number_of Nothi
 abbrev pub resuming : {P : Type 0} → Meaning P → Bool → ℕ → Reply
 resuming m off r = cond (nat_lt r m.rules) (cond off done (refused (number_of NothingToDo))) (refused (number_of UnknownNumber))
 
+-- a suspension of a rule, or a resumption, and its reply
+abbrev pub turn_of : Bool → ℕ → Call
+turn_of true r = Suspend r
+turn_of false r = Resume r
+
+abbrev pub turning : {P : Type 0} → Bool → Meaning P → Bool → ℕ → Reply
+turning true = suspending
+turning false = resuming
+
 abbrev pub opening : ℕ → ℕ → Reply
 opening number trials = cond (nat_lt trials 4) (handed number (suc trials)) (refused (number_of TrialsFull))
 

@@ -1,22 +1,19 @@
 // The state of an evening.
-ghost use Rattle.std.specs.Prelude.{◌≤◌};
-
+use arrayvec::ArrayVec;
 use layers::pins::Pins;
 use layers::suspensions::Suspensions;
 
-// All pins and all suspensions.
-#[derive(Clone, Copy)]
+// All pins and all suspensions; by default there are none.
+#[derive(Clone, Copy, Default)]
 pub struct Marks {
     pub(crate) pins: [Option<u8>; 24],
     pub(crate) off: [bool; 64],
 }
 
-// Pins over suspensions over any book, and of each open trial the marks that stood when it was opened.
+// Pins over suspensions over any book, and of each open trial, at most four, the marks that stood when it was opened.
 #[derive(Drop)]
 pub struct Evening<B> {
     pub(crate) number: u32,
     pub(crate) book: Pins<Suspensions<B>>,
-    pub(crate) saved: [Marks; 4],
-    pub(crate) depth: u8,
-    ghost open: { depth ≤ 4 },
+    pub(crate) saved: ArrayVec<Marks, 4>,
 }

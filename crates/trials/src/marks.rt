@@ -1,28 +1,13 @@
-// Pins and suspensions of an evening. Every number has 32 bits, and is compared whole.
-ghost use Rattle.std.specs.Prelude.{◌≡◌, ℕ, ◌<◌, true, false, Some, None, MatchResult};
+// Pins and suspensions of an evening. Every number has 32 bits, and is compared whole: no `From` widens one to a `usize`, and
+// `as` loses none.
+ghost use Rattle.std.specs.Prelude.{◌≡◌, true, false, Some, None, MatchResult};
 ghost use Rattle.trials.specs.Changes.{below_of, pin_at, off_at, Repinned, Turned};
 ghost use Rattle.trials.specs.Follows.{BySheet, of_mark};
-ghost use Rattle.trials.specs.Sheet.{Pin, Unpin, Suspend, Resume, pinning, unpinning, suspending, resuming};
+ghost use Rattle.trials.specs.Sheet.{Pin, Unpin, Suspend, Resume, pinning, unpinning, suspending, resuming, turn_of, turning};
 
 use crate::evening::Evening;
 use books::book::Book;
 use refusals::Refusal;
-
-impl<B> Evening<B> {
-    fn repin(&mut self, bay: u32, pin: Option<u8>)
-        requires { bay < 24 }
-        ensures { Repinned self.old bay pin self.new }
-    {
-        self.book.set_pin(bay as usize, pin);
-    }
-
-    fn turn(&mut self, rule: u32, on: bool)
-        requires { rule < 64 }
-        ensures { Turned self.old rule on self.new }
-    {
-        self.book.below.set_suspended(rule as usize, on);
-    }
-}
 
 impl<B: Book> Evening<B> {
     // Holds a bay to a choice, whatever it was pinned to before.
@@ -31,10 +16,11 @@ impl<B: Book> Evening<B> {
         ensures answer { of_mark result ≡ pinning (B.meaning (below_of self.old)) bay choice }
         ensures state { MatchResult result (λ _. Repinned self.old bay (Some choice) self.new) (λ _. self.new ≡ self.old) }
     {
-        if bay as usize >= self.book.bays() || choice >= self.book.choices(bay as usize) as u32 {
+        // A bay that the book lacks has no choices.
+        if choice >= u32::from(self.book.choices(bay as usize)) {
             return Err(Refusal::UnknownNumber);
         }
-        self.repin(bay, Some(choice as u8));
+        self.book.set_pin(bay as usize, Some(choice as u8));
         Ok(())
     }
 
@@ -47,10 +33,24 @@ impl<B: Book> Evening<B> {
         if bay as usize >= self.book.bays() {
             return Err(Refusal::UnknownNumber);
         }
-        if self.book.pin_of(bay as usize).is_none() {
+        self.pin_of(bay).ok_or(Refusal::NothingToDo)?;
+        self.book.set_pin(bay as usize, None);
+        Ok(())
+    }
+
+    // Suspends a rule, or puts it in force again.
+    fn turn(&mut self, rule: u32, on: bool) -> Result<(), Refusal>
+        ensures sheet { BySheet B.meaning (turn_of on rule) (of_mark result) self.old self.new }
+        ensures answer { of_mark result ≡ turning on (B.meaning (below_of self.old)) (off_at self.old rule) rule }
+        ensures state { MatchResult result (λ _. Turned self.old rule on self.new) (λ _. self.new ≡ self.old) }
+    {
+        if rule as usize >= self.book.rules() {
+            return Err(Refusal::UnknownNumber);
+        }
+        if self.is_suspended(rule) == on {
             return Err(Refusal::NothingToDo);
         }
-        self.repin(bay, None);
+        self.book.below.set_suspended(rule as usize, on);
         Ok(())
     }
 
@@ -60,14 +60,7 @@ impl<B: Book> Evening<B> {
         ensures answer { of_mark result ≡ suspending (B.meaning (below_of self.old)) (off_at self.old rule) rule }
         ensures state { MatchResult result (λ _. Turned self.old rule true self.new) (λ _. self.new ≡ self.old) }
     {
-        if rule as usize >= self.book.rules() {
-            return Err(Refusal::UnknownNumber);
-        }
-        if self.book.below.is_suspended(rule as usize) {
-            return Err(Refusal::NothingToDo);
-        }
-        self.turn(rule, true);
-        Ok(())
+        self.turn(rule, true)
     }
 
     // Puts a suspended rule in force again.
@@ -76,13 +69,6 @@ impl<B: Book> Evening<B> {
         ensures answer { of_mark result ≡ resuming (B.meaning (below_of self.old)) (off_at self.old rule) rule }
         ensures state { MatchResult result (λ _. Turned self.old rule false self.new) (λ _. self.new ≡ self.old) }
     {
-        if rule as usize >= self.book.rules() {
-            return Err(Refusal::UnknownNumber);
-        }
-        if !self.book.below.is_suspended(rule as usize) {
-            return Err(Refusal::NothingToDo);
-        }
-        self.turn(rule, false);
-        Ok(())
+        self.turn(rule, false)
     }
 }

@@ -1,5 +1,5 @@
 // Calls on an evening with the tickets in a rack that the caller lends.
-ghost use Rattle.std.specs.Prelude.{◌≡◌, Bool, true, false, Some};
+ghost use Rattle.std.specs.Prelude.{◌≡◌, None, Some};
 ghost use Rattle.trials.specs.Follows.{BySheet, of_mark, of_close};
 ghost use Rattle.trials.specs.Racks.{said, close as close_of, refilled, closing_at, ByRack};
 ghost use Rattle.trials.specs.declared.rack.Action.TheVariants as act;
@@ -10,7 +10,7 @@ use books::book::Book;
 use refusals::Refusal;
 
 // A call to make. Of `Open`, `Keep` and `Drop`, the place in the rack where the ticket goes, or is taken from.
-#[derive(Clone, Copy)]
+#[derive(Clone, Copy, Debug, PartialEq, Eq)]
 pub enum Action {
     Pin { bay: u32, choice: u32 },
     Unpin { bay: u32 },
@@ -21,7 +21,9 @@ pub enum Action {
     Drop { place: usize },
 }
 
-#[derive(Clone, Copy)]
+// What came of an action. A caller tells five answers apart, so they stand side by side: in a `Result` of an `Option` they would
+// say less. A ticket is told by its number and depth, since it cannot be copied.
+#[derive(Clone, Copy, Debug, PartialEq, Eq)]
 pub enum Outcome {
     // No call was made: there is no such place, or an opening's is taken, or a closing's is empty.
     NoCall,
@@ -40,7 +42,25 @@ pub enum Outcome {
     },
 }
 
-// The place is empty, so no ticket is lost.
+// How a trial ends. Were a routine handed in, a contract could name the call that it makes only by one more premise.
+#[derive(Clone, Copy)]
+enum Ending {
+    Keep,
+    Drop,
+}
+
+impl From<Result<(), Refusal>> for Outcome {
+    ghost from_gives = { λ answer outcome. said outcome ≡ Some (of_mark answer) };
+
+    fn from(answer: Result<(), Refusal>) -> Outcome {
+        match answer {
+            Ok(()) => Outcome::Done,
+            Err(refusal) => Outcome::Refused(refusal),
+        }
+    }
+}
+
+// The place is empty, so no ticket is lost: a `let .. else`, or `*slot = ..`, would let go of one, and a ticket cannot be let go.
 fn put(slot: &mut Option<Ticket>, ticket: Ticket)
     requires { slot.old ≡ None }
     ensures { slot.new ≡ Some ticket }
@@ -48,15 +68,6 @@ fn put(slot: &mut Option<Ticket>, ticket: Ticket)
     match slot.replace(ticket) {
         None => {}
         Some(_) => unreachable!(),
-    }
-}
-
-fn marked(answer: Result<(), Refusal>) -> Outcome
-    ensures { said result ≡ Some (of_mark answer) }
-{
-    match answer {
-        Ok(()) => Outcome::Done,
-        Err(refusal) => Outcome::Refused(refusal),
     }
 }
 
@@ -69,40 +80,40 @@ fn closed(slot: &mut Option<Ticket>, answer: Result<(), Returned>) -> Outcome
     match answer {
         Ok(()) => Outcome::Done,
         Err(Returned { refusal, ticket }) => {
-            let number = ticket.number;
-            let depth = ticket.depth;
-            put(slot, ticket);
-            Outcome::Returned {
+            let outcome = Outcome::Returned {
                 refusal,
-                number,
-                depth,
-            }
+                number: ticket.number,
+                depth: ticket.depth,
+            };
+            put(slot, ticket);
+            outcome
         }
     }
 }
 
-fn close<B: Book>(evening: &mut Evening<B>, ticket: Ticket, keeps: bool) -> Result<(), Returned>
-    ensures { BySheet B.meaning (close_of keeps ticket.number ticket.depth) (of_close result) evening.old evening.new }
+fn close<B: Book>(evening: &mut Evening<B>, ticket: Ticket, ending: Ending) -> Result<(), Returned>
+    ensures { BySheet B.meaning (close_of ending ticket.number ticket.depth) (of_close result) evening.old evening.new }
 {
-    if keeps {
-        evening.keep(ticket)
-    } else {
-        evening.drop(ticket)
+    match ending {
+        Ending::Keep => evening.keep(ticket),
+        Ending::Drop => evening.drop(ticket),
     }
 }
 
 fn open_at<B: Book>(evening: &mut Evening<B>, rack: &mut [Option<Ticket>], place: usize) -> Outcome
     ensures { ByRack B.meaning evening.old rack.old (act.Open place) result evening.new rack.new }
 {
-    if place >= rack.len() || rack[place].is_some() {
+    let Some(None) = rack.get(place) else {
         return Outcome::NoCall;
-    }
+    };
     match evening.open() {
         Ok(ticket) => {
-            let number = ticket.number;
-            let depth = ticket.depth;
+            let outcome = Outcome::Handed {
+                number: ticket.number,
+                depth: ticket.depth,
+            };
             put(&mut rack[place], ticket);
-            Outcome::Handed { number, depth }
+            outcome
         }
         Err(refusal) => Outcome::Refused(refusal),
     }
@@ -112,20 +123,19 @@ fn close_at<B: Book>(
     evening: &mut Evening<B>,
     rack: &mut [Option<Ticket>],
     place: usize,
-    keeps: bool,
+    ending: Ending,
 ) -> Outcome
-    ensures { ByRack B.meaning evening.old rack.old (closing_at keeps place) result evening.new rack.new }
+    ensures { ByRack B.meaning evening.old rack.old (closing_at ending place) result evening.new rack.new }
 {
+    // Of a slice's `get_mut` the prover does not know what it leaves behind.
     if place >= rack.len() {
         return Outcome::NoCall;
     }
-    match rack[place].take() {
-        None => Outcome::NoCall,
-        Some(ticket) => {
-            let answer = close(evening, ticket, keeps);
-            closed(&mut rack[place], answer)
-        }
-    }
+    let Some(ticket) = rack[place].take() else {
+        return Outcome::NoCall;
+    };
+    let answer = close(evening, ticket, ending);
+    closed(&mut rack[place], answer)
 }
 
 // Makes the call that an action asks for, if the rack allows it, and puts its ticket where it belongs.
@@ -137,12 +147,12 @@ pub fn act<B: Book>(
     ensures { ByRack B.meaning evening.old rack.old action result evening.new rack.new }
 {
     match action {
-        Action::Pin { bay, choice } => marked(evening.pin(bay, choice)),
-        Action::Unpin { bay } => marked(evening.unpin(bay)),
-        Action::Suspend { rule } => marked(evening.suspend(rule)),
-        Action::Resume { rule } => marked(evening.resume(rule)),
+        Action::Pin { bay, choice } => evening.pin(bay, choice).into(),
+        Action::Unpin { bay } => evening.unpin(bay).into(),
+        Action::Suspend { rule } => evening.suspend(rule).into(),
+        Action::Resume { rule } => evening.resume(rule).into(),
         Action::Open { place } => open_at(evening, rack, place),
-        Action::Keep { place } => close_at(evening, rack, place, true),
-        Action::Drop { place } => close_at(evening, rack, place, false),
+        Action::Keep { place } => close_at(evening, rack, place, Ending::Keep),
+        Action::Drop { place } => close_at(evening, rack, place, Ending::Drop),
     }
 }

@@ -1,6 +1,6 @@
 // Trials: opened, and then kept or dropped by the ticket.
-ghost use Rattle.std.specs.Prelude.{◌≡◌, ℕ, ◌<◌, MatchResult};
-ghost use Rattle.trials.specs.Changes.{marks_of, saved_last, Opened, Closed};
+ghost use Rattle.std.specs.Prelude.{◌≡◌, MatchResult};
+ghost use Rattle.trials.specs.Changes.{depth_of, marks_of, with_marks, saved_last, Opened, Closed, HandsBack};
 ghost use Rattle.trials.specs.Follows.{BySheet, of_open, of_close};
 ghost use Rattle.trials.specs.Sheet.{Open, Keep, Drop, opening, closing, newest};
 
@@ -10,13 +10,6 @@ use books::book::Book;
 use refusals::Refusal;
 
 impl Ticket {
-    // Whether it is of the newest of so many open trials of the evening with this number.
-    fn is_newest(&self, number: u32, trials: u8) -> bool
-        ensures { result ≡ newest number trials self.now.number self.now.depth }
-    {
-        self.number == number && self.depth == trials && self.depth > 0
-    }
-
     // The end of a ticket: its trial is closed.
     fn spend(self) {
         let Ticket {
@@ -39,86 +32,80 @@ impl<B> Evening<B> {
     fn marks(&self) -> Marks
         ensures { result ≡ marks_of self.now }
     {
-        let pins = self.book.pins;
-        let off = self.book.below.off;
-        Marks { pins, off }
+        Marks {
+            pins: self.book.pins,
+            off: self.book.below.off,
+        }
     }
 
-    // Opens one more trial.
-    fn deepen(&mut self)
-        requires { self.old.depth < 4 }
-        ensures { Opened self.old self.new }
+    fn set_marks(&mut self, marks: Marks)
+        ensures { self.new ≡ with_marks self.old marks }
     {
-        let marks = self.marks();
-        self.saved[self.depth as usize] = marks;
-        self.depth += 1;
-    }
-
-    // Closes the newest trial, with these marks.
-    fn close(&mut self, marks: Marks)
-        requires { 0 < self.old.depth }
-        ensures { Closed self.old marks self.new }
-    {
-        let pins = marks.pins;
-        let off = marks.off;
+        let Marks { pins, off } = marks;
         self.book.pins = pins;
         self.book.below.off = off;
-        self.depth -= 1;
-    }
-
-    // The marks that stood when the newest trial was opened.
-    fn saved_last(&self) -> Marks
-        requires { 0 < self.now.depth }
-        ensures { result ≡ saved_last self.now }
-    {
-        self.saved[self.depth as usize - 1]
     }
 }
 
 impl<B: Book> Evening<B> {
+    // Whether a ticket is of the newest open trial.
+    fn is_newest(&self, ticket: &Ticket) -> bool
+        ensures { result ≡ newest self.now.number (depth_of self.now) ticket.now.number ticket.now.depth }
+    {
+        ticket.number == self.number && ticket.depth == self.open_trials() && ticket.depth > 0
+    }
+
+    // Closes the newest trial, and answers the marks that stood when it was opened.
+    fn close(&mut self, ticket: Ticket) -> Result<Marks, Returned>
+        ensures answer { of_close result ≡ closing self.old.number (depth_of self.old) ticket.number ticket.depth }
+        ensures state { MatchResult result (λ saved. (saved ≡ saved_last self.old) × Closed self.old (marks_of self.old) self.new)
+            (HandsBack ticket self.old self.new) }
+    {
+        if !self.is_newest(&ticket) {
+            return Err(ticket.refused());
+        }
+        ticket.spend();
+        let Some(saved) = self.saved.pop() else {
+            unreachable!();
+        };
+        Ok(saved)
+    }
+
     // Opens a trial inside those that are open, at most four, and hands out its ticket.
     pub fn open(&mut self) -> Result<Ticket, Refusal>
         ensures sheet { BySheet B.meaning Open (of_open result) self.old self.new }
-        ensures answer { of_open result ≡ opening self.old.number self.old.depth }
+        ensures answer { of_open result ≡ opening self.old.number (depth_of self.old) }
         ensures state { MatchResult result (λ _. Opened self.old self.new) (λ _. self.new ≡ self.old) }
     {
-        if self.depth >= 4 {
+        if self.saved.is_full() {
             return Err(Refusal::TrialsFull);
         }
-        self.deepen();
+        let marks = self.marks();
+        self.saved.push(marks);
         Ok(Ticket {
             number: self.number,
-            depth: self.depth,
+            depth: self.open_trials(),
         })
     }
 
     // Closes the newest trial; its pins and suspensions stay.
     pub fn keep(&mut self, ticket: Ticket) -> Result<(), Returned>
         ensures sheet { BySheet B.meaning (Keep ticket.number ticket.depth) (of_close result) self.old self.new }
-        ensures answer { of_close result ≡ closing self.old.number self.old.depth ticket.number ticket.depth }
-        ensures state { MatchResult result (λ _. Closed self.old (marks_of self.old) self.new) (λ back. (back.ticket ≡ ticket) × (self.new ≡ self.old)) }
+        ensures answer { of_close result ≡ closing self.old.number (depth_of self.old) ticket.number ticket.depth }
+        ensures state { MatchResult result (λ _. Closed self.old (marks_of self.old) self.new) (HandsBack ticket self.old self.new) }
     {
-        if !ticket.is_newest(self.number, self.depth) {
-            return Err(ticket.refused());
-        }
-        ticket.spend();
-        let stays = self.marks();
-        self.close(stays);
+        self.close(ticket)?;
         Ok(())
     }
 
     // Closes the newest trial; pins and suspensions are again as they were when it was opened.
     pub fn drop(&mut self, ticket: Ticket) -> Result<(), Returned>
         ensures sheet { BySheet B.meaning (Drop ticket.number ticket.depth) (of_close result) self.old self.new }
-        ensures answer { of_close result ≡ closing self.old.number self.old.depth ticket.number ticket.depth }
-        ensures state { MatchResult result (λ _. Closed self.old (saved_last self.old) self.new) (λ back. (back.ticket ≡ ticket) × (self.new ≡ self.old)) }
+        ensures answer { of_close result ≡ closing self.old.number (depth_of self.old) ticket.number ticket.depth }
+        ensures state { MatchResult result (λ _. Closed self.old (saved_last self.old) self.new) (HandsBack ticket self.old self.new) }
     {
-        if !ticket.is_newest(self.number, self.depth) {
-            return Err(ticket.refused());
-        }
-        ticket.spend();
-        let marks = self.saved_last();
-        self.close(marks);
+        let saved = self.close(ticket)?;
+        self.set_marks(saved);
         Ok(())
     }
 }

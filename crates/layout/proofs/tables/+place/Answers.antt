@@ -1,6 +1,6 @@
-use Rattle.std.proofs.Common.{◌≡◌, ℕ, ◌+◌, ◌-◌, ◌*◌, ◌^◌, ◌<◌, ◌≤◌, length, get_or, ap, ◌∙◌, arith, rules}
+use Rattle.std.proofs.Common.{◌≡◌, ℕ, ◌+◌, ◌-◌, ◌*◌, ◌^◌, ◌<◌, ◌≤◌, length, get_or, arith, rules}
 use Rattle.layout.specs.Masks.{rest_of, rest_length, rest_within}
-use Rattle.layout.specs.Cells.{place_small, place_none, place_more, place_step}
+use Rattle.layout.specs.Cells.{place_small, place_step}
 use Rattle.layout.proofs.tables.+place.Goals as goal
 
 pub next_place-requires : goal.next_place-requires
@@ -17,13 +17,3 @@ place-requires t c =
     let choice : get_or c.args.plan.now bay 0 ≤ 255 = omega (arith, c.type_inv.plan bay) in
     let step : c.args.so_far * get_or c.args.counts.now bay 0 + get_or c.args.plan.now bay 0 < 256 ^ (4 - (n - 1)) = place_step n c.args.so_far _ _ some c.requires.few c.requires.small count choice in
     (search rules, (omega (arith, less), (rw (c.next_place.ensures, less) step, (rest_within scope (length c.args.counts.now) c.requires.within, c.requires.whole))))
-
-pub returns-in-empty : goal.returns-in-empty
-returns-in-empty t c = place_none c.args.counts.now c.args.plan.now c.args.scope.now c.args.so_far (search rules)
-
-pub returns-in-len1-up : goal.returns-in-len1-up
-returns-in-len1-up t c =
-    let counts = c.args.counts.now in
-    let plan = c.args.plan.now in
-    let next : c.next_place.result ≡ c.args.so_far * get_or counts (get_or c.args.scope.now 0 0) 0 + get_or plan (get_or c.args.scope.now 0 0) 0 = c.next_place.ensures ∙ ap (λ (b : ℕ). c.args.so_far * get_or counts b 0 + get_or plan b 0) c.from-bay.ensures in
-    place_more counts plan c.args.scope.now c.args.so_far c.next_place.result c.place.result (search rules) next c.place.ensures

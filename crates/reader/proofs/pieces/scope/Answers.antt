@@ -1,16 +1,22 @@
-use Rattle.std.proofs.Common.{◌+◌, ◌-◌, ◌∙◌, arith}
+use Rattle.std.proofs.Common.{◌+◌, ◌-◌, length, sym, refl, ◌∙◌, rules}
 use Rattle.std.proofs.lemmas.Result.{err_from_is_err_and}
 use Rattle.format.specs.Steps.{count_of}
-use Rattle.reader.proofs.Chains.{after_bad}
-use Rattle.reader.proofs.Steps.{scope_more}
+use Rattle.format.specs.Pieces.{got}
+use Rattle.reader.proofs.Spans.{bytes_read}
 use Rattle.reader.proofs.pieces.scope.Goals as goal
 
-pub returns-in_err-bay : goal.returns-in_err-bay
-returns-in_err-bay c =
+pub returns-in_err-times : goal.returns-in_err-times
+returns-in_err-times c =
     let p = err_from_is_err_and c.from_residual.result c.from_residual.ensures.1 in
-    rw (p.1, p.2) (c.loop-i.invariant.2 ∙ after_bad (λ low. count_of low (c.args.bays - 1)) (λ _ b. b + 1) _ c.args.n c.loop-i._i c.loop-i.low _ _ (omega arith) c.in_err-bay.ensures)
+    rw (p.1, p.2) (c.in_err-times.ensures (λ low. count_of low (length c.args.counts.bytes.now - 1)) (λ _ b. b + 1) (λ low. (low, c.args.counts)) 0 refl (λ t x r f s. search rules))
 
-pub loop-i-preserved : goal.loop-i-preserved
-loop-i-preserved c =
-    let one = c.in_ok-bay.ensures in
-    (omega arith, omega (arith, one.inside), scope_more c.args.body.now c.args.at c.args.n c.loop-i._i c.loop-i.end c.args.bays c.loop-i.low _ _ (omega arith) c.loop-i.invariant.0 one c.loop-i.invariant.2)
+pub split_at-requires : goal.split_at-requires
+split_at-requires c =
+    let all = c.in_ok-times.ensures (λ low. count_of low (length c.args.counts.bytes.now - 1)) (λ _ b. b + 1) (λ low. (low, c.args.counts)) 0 refl (λ t x r f s. search rules) in
+    (bytes_read (λ low. low) (λ _. length c.args.counts.bytes.now - 1) (λ _ b. b + 1) c.args.n 0 c.args.bytes.now all.0 c.in_ok-times.field-0.now all.1).2
+
+pub returns : goal.returns
+returns c =
+    let all = c.in_ok-times.ensures (λ low. count_of low (length c.args.counts.bytes.now - 1)) (λ _ b. b + 1) (λ low. (low, c.args.counts)) 0 refl (λ t x r f s. search rules) in
+    let p = bytes_read (λ low. low) (λ _. length c.args.counts.bytes.now - 1) (λ _ b. b + 1) c.args.n 0 c.args.bytes.now all.0 c.in_ok-times.field-0.now all.1 in
+    all.1 ∙ (λ i. got ((p.0 ∙ sym c.split_at.ensures.front) i) ((p.1 ∙ sym c.split_at.ensures.back) i))

@@ -1,40 +1,26 @@
 use Rattle.std.proofs.Common.{sym, ap, ◌∙◌, arith}
 use Rattle.std.proofs.lemmas.Result.{err_from_is_err_and}
 use Rattle.format.specs.Pieces.{bad}
-use Rattle.reader.proofs.Walked.{sizes_bad, choices_bad, prices_bad, Started, started, body_bad, body_long, body_whole}
+use Rattle.reader.proofs.Walked.{Opened, opened, body_is, left_over, walked}
 use Rattle.reader.proofs.walk.walk.Goals as goal
-use Rattle.reader.proofs.walk.walk.Goals.{In_ok-own_at, at-returns, at-returns-in_err-rule_at, at-returns-in_err-ended_at}
+use Rattle.reader.proofs.walk.walk.Goals.{In_ok-counts, at-invariant_of-counts, at-rows-requires}
 
-so_far : (c : In_ok-own_at) → Started c.args.top c.args.body.now c.from-bays.result c.from-n.result c.in_ok-at.at c.in_ok-own_at.own_at c.in_ok-own_at.at
-so_far c =
-    started c.args.top c.args.body.now c.in_ok-few.few c.in_ok-few.many c.from-bays.result c.from-n.result c.in_ok-at.at c.in_ok-own_at.own_at c.in_ok-own_at.at c.in_ok-few.ensures c.from-bays.ensures c.from-n.ensures c.in_ok-at.ensures c.in_ok-own_at.ensures
+so_far : (c : In_ok-counts) → Opened c.args.body.now c.from.result c.in_ok-counts.counts.now c.in_ok-counts.rest.now
+so_far c = opened c.args.body.now c.in_ok-bays.bays c.in_ok-n.n c.from.result c.in_ok-bays.rest.now c.in_ok-n.rest.now c.in_ok-counts.counts.now c.in_ok-counts.rest.now c.in_ok-bays.ensures c.in_ok-n.ensures c.from.ensures c.in_ok-counts.ensures
 
-pub returns-in_err-few : goal.returns-in_err-few
-returns-in_err-few c =
-    let p = err_from_is_err_and c.from_residual.result c.from_residual.ensures.1 in
-    rw (p.1, p.2) (sizes_bad c.args.top c.args.body.now _ c.in_err-few.ensures)
+pub invariant_of-counts : goal.invariant_of-counts
+invariant_of-counts c = let o = so_far (at-invariant_of-counts c).In_ok-counts in record { some = omega (arith, o.some, o.long); few = omega (arith, o.few, o.long) }
 
-pub returns-in_err-at : goal.returns-in_err-at
-returns-in_err-at c =
-    let p = err_from_is_err_and c.from_residual-in_err-at.result c.from_residual-in_err-at.ensures.1 in
-    rw (p.1, p.2) (choices_bad c.args.top c.args.body.now c.in_ok-few.few c.in_ok-few.many c.from-bays.result _ c.in_ok-few.ensures c.from-bays.ensures c.in_err-at.ensures)
+pub rows-requires : goal.rows-requires
+rows-requires c = (so_far (at-rows-requires c).In_ok-counts).ends
 
-pub returns-in_err-own_at : goal.returns-in_err-own_at
-returns-in_err-own_at c =
-    let p = err_from_is_err_and c.from_residual-in_err-own_at.result c.from_residual-in_err-own_at.ensures.1 in
-    rw (p.1, p.2) (prices_bad c.args.top c.args.body.now c.in_ok-few.few c.in_ok-few.many c.from-bays.result c.in_ok-at.at _ c.in_ok-few.ensures c.from-bays.ensures c.in_ok-at.ensures c.in_err-own_at.ensures)
-
-pub returns-in_err-rule_at : goal.returns-in_err-rule_at
-returns-in_err-rule_at c =
-    let p = err_from_is_err_and c.from_residual-in_err-rule_at.result c.from_residual-in_err-rule_at.ensures.1 in
-    rw (p.1, p.2) (body_bad c.args.top c.args.body.now c.from-bays.result c.from-n.result c.in_ok-at.at c.in_ok-own_at.own_at c.in_ok-own_at.at (so_far (at-returns-in_err-rule_at c).In_ok-own_at) _ c.in_err-rule_at.ensures)
-
-pub returns-in_err-ended_at : goal.returns-in_err-ended_at
-returns-in_err-ended_at c =
-    let p = err_from_is_err_and c.from_residual-in_err-ended_at.result c.from_residual-in_err-ended_at.ensures.1 in
-    let long = c.in_err-ended_at.ensures in
-    rw (p.1, p.2) (body_long c.args.top c.args.body.now c.from-bays.result c.from-n.result c.in_ok-at.at c.in_ok-own_at.own_at c.in_ok-own_at.at (so_far (at-returns-in_err-ended_at c).In_ok-own_at) c.in_ok-rule_at.rule_at c.in_ok-rule_at.end c.in_ok-rule_at.ensures long.0 ∙ ap bad (sym long.1))
+pub returns-in_err-all_read : goal.returns-in_err-all_read
+returns-in_err-all_read c =
+    let p = err_from_is_err_and c.from_residual-in_err-all_read.result c.from_residual-in_err-all_read.ensures.1 in
+    let long = c.in_err-all_read.ensures in
+    let all = body_is c.args.top c.args.body.now c.in_ok-bays.bays c.in_ok-n.n c.from.result c.from-2.result c.in_ok-bays.rest.now c.in_ok-n.rest.now c.in_ok-counts.counts.now c.in_ok-counts.rest.now c.in_ok-own_at.own_at.items c.in_ok-own_at.rest.now c.in_ok-rule_at.rule_at.items c.in_ok-rule_at.rest.now c.in_ok-bays.ensures c.in_ok-n.ensures c.from.ensures c.from-2.ensures c.in_ok-counts.ensures c.in_ok-own_at.ensures c.in_ok-rule_at.ensures in
+    rw (p.1, p.2) (left_over _ _ c.in_ok-rule_at.rest.now all long.0 ∙ ap bad (sym long.1))
 
 pub returns : goal.returns
 returns c =
-    body_whole c.args.top c.args.body.now c.from-bays.result c.from-n.result c.in_ok-at.at c.in_ok-own_at.own_at c.in_ok-own_at.at (so_far (at-returns c).In_ok-own_at) c.in_ok-rule_at.rule_at c.in_ok-rule_at.end c.in_ok-rule_at.ensures (omega arith) (λ i. omega (arith, c.type_inv.body i)) c.in_ok-ended_at.ensures
+    walked c.args.top c.args.body.now c.in_ok-bays.bays c.in_ok-n.n c.from.result c.from-2.result c.in_ok-bays.rest.now c.in_ok-n.rest.now c.in_ok-counts.counts.now c.in_ok-counts.rest.now c.in_ok-own_at.rest.now c.in_ok-rule_at.rest.now c.in_ok-own_at.own_at c.in_ok-rule_at.rule_at c.in_ok-bays.ensures c.in_ok-n.ensures c.from.ensures c.from-2.ensures c.in_ok-counts.ensures c.in_ok-own_at.ensures c.in_ok-rule_at.ensures c.in_ok-all_read.ensures (omega arith) (λ i. omega (arith, c.type_inv.body i))

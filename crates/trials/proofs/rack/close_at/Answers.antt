@@ -1,17 +1,15 @@
-use Rattle.std.proofs.Common.{◌<◌, length, arith}
-use Rattle.trials.proofs.Racked.{no_place, empty_place, presented}
+use Rattle.std.proofs.Common.{◌≡◌, ◌<◌, length, get_or, set, None, Some, ◌∙◌, arith, get_or-set_same, set-set}
+use Rattle.trials.specs.Racks.{refilled}
+use Rattle.trials.proofs.Racked.{presented}
 use Rattle.trials.proofs.rack.close_at.Goals as goal
 
-pub returns-then-place-rack : goal.returns-then-place-rack
-returns-then-place-rack t c g s f = no_place c.args.keeps c.args.place (omega arith) f
-
-pub returns-in-None : goal.returns-in-None
-returns-in-None t c g s f =
-    let inside : c.args.place < length c.args.rack.now = omega arith in
-    empty_place c.args.keeps c.args.place inside _ c.take.ensures.value _ c.take.ensures.after c.in-None.is f
-
-pub returns-in-Some : goal.returns-in-Some
-returns-in-Some t c g s f =
-    let inside : c.args.place < length c.args.rack.now = omega arith in
-    presented c.args.keeps c.args.place inside _ c.take.ensures.value _ c.take.ensures.after c.in-Some.ticket c.close-answer.result _ _ c.in-Some.is
-    (c.close-answer.ensures g s f) c.closed.ensures.says c.closed.ensures.place
+pub returns : goal.returns
+returns t c = λ g s f.
+    let k = c.args.rack.now in
+    let i = c.args.place in
+    let inside : i < length k = omega arith in
+    let at : get_or k i None ≡ Some c.in-Some.ticket = cc in
+    let empty : get_or (set k i c.take.new.self) i None ≡ None = get_or-set_same k i c.take.new.self None inside ∙ c.take.ensures.after in
+    let again : c.closed.new.slot ≡ refilled None c.close-answer.result = rw empty at c.closed.ensures.place in
+    rw (set-set k i c.take.new.self c.closed.new.slot, again)
+    (presented c.args.ending i c.in-Some.ticket c.close-answer.result inside at (c.close-answer.ensures g s f) c.closed.ensures.says)

@@ -1,31 +1,27 @@
-use Rattle.std.proofs.Common.{◌≡◌, ℕ, length, get_or, sym, ap, ◌∙◌, arith}
-use Rattle.std.proofs.lemmas.List.{get_or_past, get_or_default}
+use Rattle.std.proofs.Common.{◌≡◌, ℕ, ◌<◌, ◌≤◌, List, length, get_or, sym, ap, ◌∙◌, arith, rules, tests}
+use Rattle.std.proofs.lemmas.Bool.{lt-leb}
+use Rattle.std.proofs.lemmas.Iterator.{YieldsList-from_slice, YieldsList-from_zip, cases_from_all}
 use Rattle.model.specs.Books.{begins}
-use Rattle.books.proofs.Plans.{begins_next, begins_not}
+use Rattle.layout.specs.Meant.{choices_in, planned_in}
 use Rattle.layout.specs.Viewed.{viewed}
-use Rattle.layout.specs.Meant.{choices_in}
-use Rattle.layout.specs.Places.{few_choices, bays_is}
+use Rattle.layout.specs.Cells.{begins_by_zip, begins_short}
+use Rattle.layout.specs.Places.{few_choices, counts_long, bays_is}
 use Rattle.layout.proofs.view.View.is_plan.Goals as goal
+use Rattle.layout.proofs.view.View.is_plan.Goals.{After-counts-counts, at-returns-then-plan-counts, at-returns-else-plan-counts}
 
-pub returns-then-plan-self : goal.returns-then-plan-self
-returns-then-plan-self c =
+means : (c : After-counts-counts) → begins (λ i. get_or c.counts-counts.result.now i 0) (length c.counts-counts.result.now) c.args.plan.now ≡ planned_in (viewed c.args.self.now) c.args.plan.now
+means c =
     let x = c.args.self.now in
-    let plan = c.args.plan.now in
-    let past : get_or plan (length plan) 255 ≡ 255 = get_or_past plan (length plan) 255 (omega arith) in
-    sym (begins_not (choices_in (viewed x)) (length (viewed x).own) (length plan) plan (omega (arith, bays_is x.body.now x.index.now)) (omega (arith, few_choices x.body.now x.index.now x.found (length plan))))
+    ap (λ (l : List ℕ). begins (λ i. get_or l i 0) (length l) c.args.plan.now) c.counts-counts.ensures ∙ ap (λ (n : ℕ). begins (choices_in (viewed x)) n c.args.plan.now) (counts_long x.body.now x.index.now ∙ bays_is x.body.now x.index.now)
 
-pub returns-then-plan-i : goal.returns-then-plan-i
-returns-then-plan-i c =
+pub returns-then-plan-counts : goal.returns-then-plan-counts
+returns-then-plan-counts c =
+    begins_by_zip c.counts-counts.result.now c.args.plan.now _ c.if-plan-counts.true
+    (cases_from_all c.all.new.self _ _ (λ p. p.1 < p.0) (λ p. p.0 ≤ p.1) c.all.ensures.ran (YieldsList-from_zip (YieldsList-from_slice c.counts-counts.result.now cc) (YieldsList-from_slice c.args.plan.now cc)) (λ x q k. search (rules, tests)) (λ x q k. search (rules, tests)))
+    ∙ means (at-returns-then-plan-counts c).After-counts-counts
+
+pub returns-else-plan-counts : goal.returns-else-plan-counts
+returns-else-plan-counts c =
     let x = c.args.self.now in
-    let plan = c.args.plan.now in
-    sym (begins_not (choices_in (viewed x)) (length (viewed x).own) c.loop-i.i plan (omega (arith, bays_is x.body.now x.index.now)) (omega (arith, get_or_default plan c.loop-i.i 255 0 (omega arith), c.choices.ensures)))
-
-pub loop-i-preserved : goal.loop-i-preserved
-loop-i-preserved c =
-    begins_next (choices_in (viewed c.args.self.now)) c.loop-i.i c.args.plan.now c.loop-i.invariant (omega (arith, get_or_default c.args.plan.now c.loop-i.i 255 0 (omega arith), c.choices.ensures))
-
-pub returns : goal.returns
-returns c =
-    let x = c.args.self.now in
-    let e : c.loop-i.i ≡ length (viewed x).own = omega (arith, bays_is x.body.now x.index.now) in
-    sym c.loop-i.invariant ∙ ap (λ (n : ℕ). begins (choices_in (viewed x)) n c.args.plan.now) e
+    let few : get_or c.counts-counts.result.now (length c.args.plan.now) 0 ≤ 255 = omega (arith, few_choices x.body.now x.index.now x.found (length c.args.plan.now), ap (λ (l : List ℕ). get_or l (length c.args.plan.now) 0) c.counts-counts.ensures) in
+    lt-leb _ _ c.if-plan-counts.false ∙ sym (begins_short c.counts-counts.result.now c.args.plan.now (omega arith) few) ∙ means (at-returns-else-plan-counts c).After-counts-counts

@@ -1,27 +1,30 @@
-use Rattle.std.proofs.Common.{ℕ, ◌+◌, ◌*◌, get_or, Some, ap, ◌∙◌, arith}
-use Rattle.reader.specs.Places.{price_at}
-use Rattle.layout.specs.Places.{own_some, own_none, own_inside, few_bays, bay_in}
+use Rattle.std.proofs.Common.{◌≡◌, ℕ, ◌<◌, ◌≤◌, List, length, get_or, drop, sym, ap, ◌∙◌, subst, arith}
+use Rattle.layout.specs.Places.{own_none, choices_past, row_read, row_starts}
 use Rattle.layout.proofs.view.View.own.Goals as goal
+use Rattle.layout.proofs.view.View.own.Goals.{In_ok-row, at-nth_price-requires, at-returns-then-choice-choices}
 
-pub offset_bounds-self-bay : goal.offset_bounds-self-bay
-offset_bounds-self-bay c =
+pub from_place-requires : goal.from_place-requires
+from_place-requires c =
     let x = c.args.self.now in
-    omega (arith, few_bays x.body.now x.index.now x.found, bay_in x.body.now x.index.now c.args.bay c.args.choice (omega (arith, c.choices.ensures)))
+    subst (λ (l : List ℕ). (i : ℕ) → i < length l → get_or l i 0 ≤ length x.body.now) (sym c.as_slice.ensures.value) (row_starts x.body.now x.index.now x.found)
 
-pub bounds-self-bay : goal.bounds-self-bay
-bounds-self-bay c =
+pub returns-in_err-row : goal.returns-in_err-row
+returns-in_err-row c =
     let x = c.args.self.now in
-    omega (arith, few_bays x.body.now x.index.now x.found, bay_in x.body.now x.index.now c.args.bay c.args.choice (omega (arith, c.choices.ensures)))
+    c.from_residual.ensures ∙ own_none x.body.now x.index.now c.args.bay c.args.choice (omega (arith, choices_past x.body.now x.index.now c.args.bay (omega (arith, c.in_err-row.ensures, ap (λ (l : List ℕ). length l) c.as_slice.ensures.value))))
+
+row_is : (c : In_ok-row) → c.in_ok-row.row.now ≡ drop (get_or c.args.self.now.index.now.own_at.items c.args.bay 0) c.args.self.now.body.now
+row_is c = c.in_ok-row.ensures.1 ∙ ap (λ (l : List ℕ). drop (get_or l c.args.bay 0) c.args.self.now.body.now) c.as_slice.ensures.value
 
 pub nth_price-requires : goal.nth_price-requires
 nth_price-requires c =
     let x = c.args.self.now in
-    omega (arith, own_inside x.body.now x.index.now x.found c.args.bay c.args.choice (omega (arith, c.choices.ensures)), c.from.ensures)
+    (row_read x.body.now x.index.now x.found c.args.bay c.args.choice c.from.result 0 c.in_ok-row.row.now (row_is (at-nth_price-requires c).In_ok-row) c.from.ensures (omega (arith, c.choices.ensures))).0
 
 pub returns-then-choice-choices : goal.returns-then-choice-choices
 returns-then-choice-choices c =
     let x = c.args.self.now in
-    ap (λ (n : ℕ). Some n) (c.nth_price.ensures ∙ ap (λ (k : ℕ). price_at x.body.now (get_or x.index.now.own_at c.args.bay 0 + 4 * k)) c.from.ensures) ∙ own_some x.body.now x.index.now c.args.bay c.args.choice (omega (arith, c.choices.ensures))
+    (row_read x.body.now x.index.now x.found c.args.bay c.args.choice c.from.result c.nth_price.result c.in_ok-row.row.now (row_is (at-returns-then-choice-choices c).In_ok-row) c.from.ensures (omega (arith, c.choices.ensures))).1 c.nth_price.ensures
 
 pub returns-else-choice-choices : goal.returns-else-choice-choices
 returns-else-choice-choices c = own_none c.args.self.now.body.now c.args.self.now.index.now c.args.bay c.args.choice (omega (arith, c.choices.ensures))

@@ -1,0 +1,33 @@
+// Bytes written in hex.
+use std::alloc::{AllocError, Global};
+
+// What a digit stands for; what is none counts as 0.
+fn digit(byte: u8) -> u8 {
+    match byte {
+        b'0'..=b'9' => byte - b'0',
+        b'a'..=b'f' => byte - b'a' + 10,
+        _ => 0,
+    }
+}
+
+// Two digits a byte.
+fn decoded(heap: Global, digits: &str) -> Result<Vec<u8>, AllocError> {
+    let pairs = digits.as_bytes().chunks_exact(2);
+    pairs
+        .map(|pair| digit(pair[0]).wrapping_mul(16) | digit(pair[1]))
+        .collect(heap)
+}
+
+// Pieces parted by commas, each two digits a byte; `00*96` stands for 96 times the same. `-` has no bytes.
+pub(crate) fn bytes_of(heap: Global, text: &str) -> Result<Vec<u8>, AllocError> {
+    let mut bytes = Vec::new(heap);
+    for piece in text.split(',') {
+        let mut parts = piece.split('*');
+        let digits = decoded(heap, parts.next().unwrap_or(""))?;
+        let times = parts.next().unwrap_or("1").parse::<u32>().unwrap_or(0);
+        for _ in 0..times {
+            bytes.extend_from_slice(digits.as_slice())?;
+        }
+    }
+    Ok(bytes)
+}

@@ -1,0 +1,2 @@
+pub mod Picked
+pub mod Reduced

@@ -1,0 +1,5 @@
+use Rattle.reader.proofs.Spans.{RowsNoted}
+use Rattle.reader.proofs.walk.rows.Given as goal
+
+abbrev pub invariant-loop-n : goal.invariant-loop-n
+invariant-loop-n l = RowsNoted l.top l.body l.counts.bytes.now l.n-index l.bytes l.own_at.items l.rest

@@ -1,0 +1,7 @@
+use Rattle.std.proofs.Common.{◌≡◌, ℕ}
+use Rattle.model.specs.Sets.{has}
+use Rattle.search.specs.Force.{shares}
+use Rattle.search.proofs.terms.Terms.touched.Given as goal
+
+abbrev pub invariant-loop-number : goal.invariant-loop-number
+invariant-loop-number g l = (i : ℕ) → has l.bays i ≡ shares (g.B.Book.meaning l.self.book.now) l.self.lines.now l.force l.bay l.number i
