@@ -22,6 +22,7 @@ LINES = {
     2: [("an impl for one price kind", r"^impl .* for (Cents|Waits) ")],
     3: [
         ("a loop over a counted index", r"for \w+ in 0\.\."),
+        ("a loop over other numbers", r"for \w+ in (\(|[1-9a-z]\w*\.\.)"),
         ("a while loop", r"^ +while "),
         ("a call with a counted index", r"^ +(?!let [a-z]+ = self)(?!(en|re)quires).*\b(number|bay|at|n) [-+] 1\b"),
         ("a call with the depth before", r"\(.*\blast, (plan|next|scratch)|, last\)"),

@@ -35,11 +35,7 @@ pub fn with(set: u32, bay: u8) -> u32
 pub fn without(set: u32, bay: u8) -> u32
     ensures { result ≡ minus set (one bay) }
 {
-    if bay < 32 {
-        set ^ (set & 1 << bay)
-    } else {
-        set
-    }
+    if bay < 32 { set & !(1 << bay) } else { set }
 }
 
 // How many bays are in the set.
@@ -79,5 +75,7 @@ pub fn connect(masks: [u32; 24], bay: u8) -> [u32; 24]
     ensures { result ≡ connected masks bay }
 {
     let near = neighbours_of(&masks, bay);
+
+    // Each index is below 24, so `as` loses none, and no `From` narrows one.
     array::from_fn(|other| joined_set(masks[other], near, bay, other as u8))
 }

@@ -1,7 +1,7 @@
 // Bytes written in hex.
 use std::alloc::{AllocError, Global};
 
-// What a digit stands for; what is none counts as 0.
+// What a digit stands for; anything else counts as 0, capitals too: so it is not `to_digit`.
 fn digit(byte: u8) -> u8 {
     match byte {
         b'0'..=b'9' => byte - b'0',
@@ -18,7 +18,8 @@ fn decoded(heap: Global, digits: &str) -> Result<Vec<u8>, AllocError> {
         .collect(heap)
 }
 
-// Pieces parted by commas, each two digits a byte; `00*96` stands for 96 times the same. `-` has no bytes.
+// Pieces parted by commas, each two digits a byte; `00*96` stands for 96 times the same, and a count that is no number
+// for 0 times. `-` has no bytes.
 pub(crate) fn bytes_of(heap: Global, text: &str) -> Result<Vec<u8>, AllocError> {
     let mut bytes = Vec::new(heap);
     for piece in text.split(',') {

@@ -1,6 +1,6 @@
 // Runs cases from standard input over the library, one line in and one line out. A line is
 //   E MARK NUMBER HEX QUIET    reads the book of the mark, CTS or MIN, from bytes in hex, `-` for none, under quiet hours if
-//                              QUIET is 24 numbers parted by commas
+//                              QUIET is 24 numbers parted by commas; NUMBER is not read
 //   P bay choice, U bay        pins and unpins a bay
 //   S rule, R rule             suspends and resumes a rule
 //   C PICKER k cells lines     the course over the pile, with room for so many lines

@@ -35,7 +35,7 @@ fn order(heap: Global, list: &str) -> Result<Order, Fault> {
 }
 
 impl Named {
-    // The order from 0 to 23 for what is no other name.
+    // The order from 0 to 23 for what is no other name. One name is tested, so there is no table of them.
     pub(crate) fn parse(heap: Global, name: &str) -> Result<Named, Fault> {
         if name == "fewest" {
             return Ok(Named::Fewest);

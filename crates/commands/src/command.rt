@@ -1,6 +1,7 @@
 // What a command line asks for.
 
-// `k` is as the line has it, but none below -4,294,967,296: a lower one is held as that.
+// `k` is as the line has it, but none below -4,294,967,296: a lower one is held as that. What a plan is sought with stands side by side, as
+// the fields of a line do.
 #[derive(Clone, Copy, Debug, PartialEq, Eq)]
 pub enum Command {
     Pin {

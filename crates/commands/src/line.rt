@@ -71,8 +71,7 @@ fn read(line: &[u8]) -> Option<Command>
     chosen(char::from(*letter), rest)
 }
 
-// The command that a line writes; the line is without its line feed. A function, since `TryFrom` could not name its two
-// clauses apart.
+// The command that a line writes; the line is without its line feed. A function and no `TryFrom`: `parse` is its public name.
 pub fn parse(line: &[u8]) -> Result<Command, Refusal>
     ensures is { result ≡ ok_or (command_in line.now) Refusal.UnreadLine }
     ensures accepts { Accepts line.now result }

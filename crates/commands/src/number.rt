@@ -47,7 +47,8 @@ fn digit(byte: u8) -> Option<u32>
     char::from(byte).to_digit(10)
 }
 
-// The number at the front, and what follows it.
+// The number at the front, and what follows it. A loop over the rest: a `take_while` with a `fold` would have to tell where the
+// digits end as well.
 pub fn number(bytes: &[u8]) -> Option<(Held, &[u8])>
     ensures { MatchOption result (numeral bytes.now ≡ unread) (λ p. held (numeral bytes.now) ≡ got p.0.number p.1.now) }
 {

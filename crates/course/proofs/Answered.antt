@@ -1,5 +1,5 @@
 -- What an accepted call for a course answers.
-use Rattle.std.proofs.Common.{◌≡◌, ℕ, ◌^◌, ◌<◌, ◌≤◌, Bool, true, false, cond, not, ◌&&◌, List, ◌++◌, map, length, drop, ℤ, pos, negsuc, Some, None, Ok, Err, sym, refl, ap, ◌∙◌, subst, ap₂, arith}
+use Rattle.std.proofs.Common.{◌≡◌, ℕ, ◌^◌, ◌<◌, ◌≤◌, Bool, true, cond, not, ◌&&◌, List, ◌++◌, map, length, drop, ℤ, pos, negsuc, Ok, Err, sym, ap, ◌∙◌, subst, ap₂}
 use lib.Signed.{le_z}
 use Rattle.std.proofs.lemmas.Bool.{le-ltb}
 use Rattle.model.specs.Books.{Meaning, BookLaws}
@@ -12,10 +12,6 @@ use Rattle.course.specs.declared.line.Line.{Line}
 use Rattle.course.specs.Replies.{lines_of, allowed, reply, after, Tells}
 use Rattle.course.specs.Written.{written, forecast_of}
 use Rattle.course.proofs.Starts.{forecast_is, told}
-
-pub some_cond : (t : Bool) (k z : ℤ) → Some k ≡ cond t (Some z) None → (t ≡ true) × (k ≡ z)
-some_cond true k z e = (refl, cc)
-some_cond false k z e = let n : ◌≡◌ {A = ℕ} 0 1 = cc in absurd (omega arith)
 
 module _ {P : Type 0} (o : Ops P) (m : Meaning P) (laws : BookLaws o m) (pick : Question → ℕ)
     (remains : (q : Question) → 0 < q.remaining → q.remaining < 2 ^ 24 → has q.remaining (pick q) ≡ true)

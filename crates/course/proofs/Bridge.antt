@@ -12,10 +12,11 @@ use Rattle.std.proofs.lemmas.Bool.{eqb-true, eq-eqb, ne_eqb, both_ways, cond-tru
 use Rattle.model.specs.Sets.{has, one, minus}
 use Rattle.bays.specs.Neighbours.{joined, connected}
 use Rattle.bays.proofs.Joined.{joined_has}
-use Rattle.model.proofs.Bits.{has_minus, has_and, has_one, has_below, minus_small}
+use Rattle.model.proofs.Bits.{has_minus, has_one, has_below, minus_small}
 use Rattle.model.proofs.Kept.{keep_keep, keep_same, turn}
 use Rattle.pickers.specs.declared.question.Question.{Question}
 use Rattle.pickers.specs.Questions.{asked, seen, kept}
+use Rattle.pickers.proofs.Asked.{seen_has}
 use lib.Signed.{le_z}
 use Rattle.model.specs.Lists.{any, member, product}
 use Rattle.model.specs.Course.{View, Passing, Step as Decided, near, views, decide, sure, course, connect, drop_bay}
@@ -29,12 +30,6 @@ use Rattle.course.proofs.Bayed.{bays_member, drop_is, bays_count, set_is}
 use Rattle.course.proofs.Steps.{one_fewer, some_from_ones}
 
 -- neighbours
-seen_has : (m near b i : ℕ) → has m b ≡ true → has (seen m near b) i ≡ ((has near i && has m i) && not (eqb b i))
-seen_has m near b i h =
-    ap (λ (t : Bool). has (cond t (minus (bit_and near m) (one b)) 0) i) h
-    ∙ has_minus (bit_and near m) (one b) i
-    ∙ ap₂ (λ (x y : Bool). x && not y) (has_and near m i) (has_one b i)
-
 pub seen_small : (m near b : ℕ) → m < 2 ^ 24 → seen m near b < 2 ^ 24
 seen_small m near b h = go (has m b)
   where
@@ -46,7 +41,7 @@ pub near_is : (m b : ℕ) (ms : List ℕ) (adj : ℕ → ℕ → Bool) → has m
 unfolding bays_of
 near_is m b ms adj h agree =
     keep_keep (λ i. not (eqb i b) && adj b i) (has m) (range_with_len 0 24)
-    ∙ keep_same (λ i. has m i && (not (eqb i b) && adj b i)) (has (seen m (get_or ms b 0) b)) (range_with_len 0 24) (λ i. at i (has m i) refl (eqb i b) refl ∙ sym (seen_has m (get_or ms b 0) b i h))
+    ∙ keep_same (λ i. has m i && (not (eqb i b) && adj b i)) (has (seen m (get_or ms b 0) b)) (range_with_len 0 24) (λ i. at i (has m i) refl (eqb i b) refl ∙ sym (seen_has m (get_or ms b 0) b i ∙ ap (λ (t : Bool). t && ((has (get_or ms b 0) i && has m i) && not (eqb b i))) h))
   where
     none : (x : Bool) → false ≡ ((x && false) && not (eqb b b))
     none true = refl

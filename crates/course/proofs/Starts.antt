@@ -2,9 +2,9 @@
 use Rattle.std.proofs.Common.{◌≡◌, ℕ, zero, suc, ◌+◌, ◌-◌, ◌*◌, ◌^◌, ◌<◌, ◌≤◌, Bool, true, false, cond, ◌&&◌, ◌||◌, ltb, List, [], ◌∷◌, ◌++◌, map, length, get_or, take, drop, ℤ, sym, refl, ap, ◌∙◌, subst, ap₂, ⊎_elim, arith, pow_pos, pow_mono}
 use native.Mathlib.Nat.{sub-zero}
 use lib.Bits.{bit_or}
-use lib.Count.{ones}
+use Rattle.std.specs.Int.Count.{ones-ones}
 use Rattle.std.specs.List.{range_with_len}
-use Rattle.std.proofs.lemmas.List.FromFn.{get_or-map-range_with_len, length-map-range_with_len, length-range_with_len}
+use Rattle.std.proofs.lemmas.List.FromFn.{get_or-map-range_with_len, length-map-range_with_len}
 use Rattle.std.proofs.lemmas.List.{get_or_past, take_at}
 use Rattle.std.proofs.lemmas.Bool.{cases_lt, eq-eqb, lt-ltb, le-ltb, ltb-true}
 use Rattle.model.specs.Books.{Meaning, BookLaws}
@@ -24,7 +24,6 @@ use Rattle.course.specs.Masks.{bays_of, touched, sets_of, tries_of, course_of}
 use Rattle.course.specs.Replies.{lines_of, Tells}
 use Rattle.course.specs.Views.{answers_of}
 use Rattle.course.specs.Written.{written, unwritten, forecast_of}
-use Rattle.course.proofs.Bayed.{bays_count}
 use Rattle.course.proofs.Bridge.{course_is}
 
 -- of the bays at the start
@@ -48,9 +47,6 @@ full_has n i = same_bools (has (2 ^ n - 1) i) (ltb i n) (λ e. lt-ltb i n (has_b
 pub bays_full : (n : ℕ) → n ≤ 24 → bays_of (2 ^ n - 1) ≡ range_with_len 0 n
 unfolding bays_of
 bays_full n h = keep_same (has (2 ^ n - 1)) (λ i. ltb i n) (range_with_len 0 24) (full_has n) ∙ keep_first 24 0 n n h (omega arith)
-
-pub ones_full : (n : ℕ) → n ≤ 24 → ones (2 ^ n - 1) ≡ n
-ones_full n h = sym (bays_count (2 ^ n - 1) (full_small n h)) ∙ ap length (bays_full n h) ∙ length-range_with_len 0 n
 
 -- two bays are adjacent at the start exactly when one is in the other's set
 module _ {P : Type 0} (m : Meaning P) where
@@ -114,7 +110,7 @@ module _ {P : Type 0} (o : Ops P) (m : Meaning P) (laws : BookLaws o m) (pick : 
   lines_are k cells =
       let few = laws.few_bays in
       ap (λ (xs : List ℕ). map written (course (passing_in m (answers_of pick) k) m.bays xs (linked m) cells)) (sym (bays_full m.bays few))
-      ∙ course_is (passing_in m (answers_of pick) k) pick (tries_of m.choices) (links k) m.bays (2 ^ m.bays - 1) (sets_of m.scope m.rules) (linked m) cells (full_small m.bays few) (ones_full m.bays few) (agree_start m (2 ^ m.bays - 1) (full_small m.bays few))
+      ∙ course_is (passing_in m (answers_of pick) k) pick (tries_of m.choices) (links k) m.bays (2 ^ m.bays - 1) (sets_of m.scope m.rules) (linked m) cells (full_small m.bays few) (ones-ones m.bays) (agree_start m (2 ^ m.bays - 1) (full_small m.bays few))
 
   pub lines_long : (k : ℤ) (cells : ℕ) → length (map written (lines_of m pick k cells)) ≡ m.bays
   lines_long k cells = ap length (lines_are k cells) ∙ lines_count pick (tries_of m.choices) k m.bays (sets_of m.scope m.rules) (2 ^ m.bays - 1) cells

@@ -1,9 +1,13 @@
 -- One step of the course on sets.
-use Rattle.std.proofs.Common.{◌≡◌, ℕ, zero, suc, ◌-◌, ◌^◌, ◌<◌, Bool, true, cond, ◌&&◌, leb, List, ◌∷◌, get_or, ℤ, pos, sym, ap, ap₂, ◌∙◌, ⊎_elim, arith}
-use Rattle.std.specs.Prelude.{Option, Some, None, is_some, unwrap_or, IfSome}
+use Rattle.std.proofs.Common.{◌≡◌, ℕ, zero, suc, ◌-◌, ◌^◌, ◌<◌, Bool, true, false, cond, refl, ◌&&◌, leb, List, ◌∷◌, get_or, ℤ, pos, sym, ap, ap₂, ◌∙◌, ⊎_elim, arith}
+use Rattle.std.specs.Prelude.{Option, Some, None, is_some, unwrap_or, Result, Ok, Err, OkIff}
+use Rattle.std.specs.Option.{MatchOption}
+use Rattle.std.specs.Result.{result_ok}
+use Rattle.std.specs.Bool.{then_some}
+use Rattle.std.proofs.lemmas.Option.{same_Some}
 use lib.Count.{ones}
 use lib.Signed.{le_z}
-use Rattle.std.proofs.lemmas.Bool.{and_parts, cases_lt, le-leb, lt-leb, leb-true, eqb-true}
+use Rattle.std.proofs.lemmas.Bool.{and_parts, and_right, cases_lt, le-leb, lt-leb, leb-true, eqb-true}
 use Rattle.model.specs.Sets.{bit, has, one, minus}
 use Rattle.bays.specs.Neighbours.{connected}
 use Rattle.model.proofs.Bits.{ones_minus}
@@ -21,20 +25,34 @@ fits_same p unused cells w e =
     (λ g. le-leb cells unused (omega arith) ∙ sym (le-leb p unused g))
     (cases_lt unused p)
 
-pub stepped : (cs : List ℕ) (k : ℤ) (unused b near cells : ℕ) (f : Bool) (o : Option ℕ) → unused < 2 ^ 64 → cells ≡ capped_cells (product_of cs near)
-    → f ≡ (le_z (pos (ones near)) k && leb cells unused) → is_some o ≡ f → IfSome o (λ n. n ≡ cells) → record { bay = b; table = o } ≡ step_at cs k unused b near
+-- the cells of a table, where a number is narrowed and then filtered by a test that answers as a step decides
+pub stepped : {E : Type 0} (cs : List ℕ) (k : ℤ) (unused b near cells : ℕ) (r : Result ℕ E) (o t : Option ℕ) (Calls : ℕ → Bool → Type 0) → unused < 2 ^ 64 → cells ≡ capped_cells (product_of cs near)
+    → OkIff r (cells < 2 ^ 64) cells → o ≡ result_ok r → MatchOption o (t ≡ None) (λ x. (v : Bool) × Calls x v × (t ≡ then_some v x)) → ((x : ℕ) (v : Bool) → Calls x v → v ≡ (le_z (pos (ones near)) k && leb x unused))
+    → record { bay = b; table = t } ≡ step_at cs k unused b near
 unfolding step_at
-stepped cs k unused b near cells f None w e f_is o_is is =
+stepped cs k unused b near cells (Err e) None t Calls w is narrow o_is t_is calls =
     let p = product_of cs near in
-    let few = le_z (pos (ones near)) k in
-    sym (ap (λ (t : Bool). settled b t p) (sym (o_is ∙ f_is ∙ ap (λ (t : Bool). few && t) (fits_same p unused cells w e))))
-stepped cs k unused b near cells f (Some n) w e f_is o_is is =
-    let p = product_of cs near in
-    let few = le_z (pos (ones near)) k in
-    let folds : (few && leb p unused) ≡ true = sym (o_is ∙ f_is ∙ ap (λ (t : Bool). few && t) (fits_same p unused cells w e)) in
-    let fit = leb-true p unused (and_parts few (leb p unused) folds).1 in
-    let same : n ≡ p = omega arith in
-    ap (λ (x : ℕ). record { bay = b; table = Some x }) same ∙ sym (ap (λ (t : Bool). settled b t p) folds)
+    ap (λ (x : Option ℕ). record { bay = b; table = x }) t_is ∙ sym (ap (λ (v : Bool). settled b v p) (and_right (le_z (pos (ones near)) k) (leb p unused) (lt-leb p unused (omega (arith, narrow)))))
+stepped cs k unused b near cells (Err e) (Some y) t Calls w is narrow o_is t_is calls = cc
+stepped cs k unused b near cells (Ok x) None t Calls w is narrow o_is t_is calls = cc
+stepped cs k unused b near cells (Ok x) (Some y) t Calls w is narrow o_is t_is calls =
+    go (few && leb p unused) refl (t_is.2 ∙ ap (λ (v : Bool). then_some v y) (calls y t_is.0 t_is.1 ∙ ap (λ (v : Bool). few && v) (fits_same p unused y w y_is)))
+  where
+    p : ℕ
+    p = product_of cs near
+
+    few : Bool
+    few = le_z (pos (ones near)) k
+
+    y_is : y ≡ capped_cells (product_of cs near)
+    y_is = same_Some y x o_is ∙ narrow.1 ∙ is
+
+    go : (f : Bool) → (few && leb p unused) ≡ f → t ≡ then_some f y → record { bay = b; table = t } ≡ settled b f p
+    go true e t_is =
+        let fit = leb-true p unused (and_parts few (leb p unused) e).1 in
+        let same : y ≡ p = omega (arith, y_is) in
+        ap (λ (x : Option ℕ). record { bay = b; table = x }) (t_is ∙ ap Some same)
+    go false e t_is = ap (λ (x : Option ℕ). record { bay = b; table = x }) t_is
 
 pub decided_at : (pick : Question → ℕ) (cs : List ℕ) (k : ℤ) (ms : List ℕ) (m unused : ℕ) (q : Question) (b near : ℕ) → q ≡ asked m ms cs k → b ≡ pick q → near ≡ get_or q.neighbours b 0 → step_at cs k unused b near ≡ decided pick cs k ms m unused
 unfolding decided

@@ -3,7 +3,8 @@ ghost use Rattle.std.specs.Prelude.{◌≡◌, true, pos, negsuc, int_le};
 
 use refusals::Refusal;
 
-// The setting k, from -1 to 4; -1 folds no bay.
+// The setting k, from -1 to 4; -1 folds no bay. It is held as the number that the interface gives: a step and a question take a
+// plain i8, since a narrower parameter would ask more of callers.
 #[derive(Clone, Copy, Debug, PartialEq, Eq)]
 pub struct Bound {
     k: i8,
@@ -27,8 +28,8 @@ impl TryFrom<i64> for Bound {
     ghost try_from_gives = { Bounds };
 
     fn try_from(k: i64) -> Result<Bound, Refusal> {
-        match k {
-            -1..=4 => Ok(Bound { k: k as i8 }),
+        match i8::try_from(k) {
+            Ok(k @ -1..=4) => Ok(Bound { k }),
             _ => Err(Refusal::BadSetting),
         }
     }

@@ -37,7 +37,8 @@ impl Left {
     }
 }
 
-// Writes the lines of the bays that remain, in passing order.
+// Writes the lines of the bays that remain, in passing order. It is recursive, since after an `iter_mut` only the length of
+// the lines would be known.
 pub(crate) fn fill<K: Picker>(picker: &K, choices: &[u8; 24], k: i8, left: Left, lines: &mut [Line])
     requires few { left.remaining < 2 ^ 24 }
     requires count { count_ones left.remaining ≡ length lines.old }

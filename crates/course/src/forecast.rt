@@ -1,4 +1,5 @@
-// The forecast of a course.
+// The forecast of a course: a step that decides and two routines, one for each kind of line, that call it back. The form was
+// asked for.
 ghost use Rattle.std.specs.Prelude.{◌≡◌, ◌+◌, ◌*◌};
 ghost use Rattle.course.specs.Written.{forecast_of};
 ghost use Rattle.model.specs.Course.{capped};

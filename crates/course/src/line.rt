@@ -1,4 +1,5 @@
-// A line of a course: a bay, how many choices it has, and whether it is folded or branched.
+// A line of a course as it is written out: a bay, how many choices it has, and whether it is folded or branched. What a fold
+// is made of is not told.
 #[derive(Clone, Copy, Debug, Default, PartialEq, Eq)]
 pub struct Line {
     pub bay: u8,

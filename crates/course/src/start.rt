@@ -16,7 +16,7 @@ fn touching<B: Book>(book: &B, bay: u8) -> u32
         .fold(0, |near, scope| near | scope)
 }
 
-// The neighbour sets of a book's bays before any is passed.
+// The neighbour sets of a book's bays before any is passed. Each index is below 24, so `as` loses none, and no `From` narrows one.
 pub(crate) fn start<B: Book>(book: &B) -> [u32; 24]
     ensures { result ≡ sets_of (B.meaning book.now).scope (B.meaning book.now).rules }
 {

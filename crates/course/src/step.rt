@@ -19,7 +19,8 @@ fn product(choices: &[u8; 24], near: u32) -> u128
 }
 
 // Asks the picker for the next bay. It is folded if its neighbours number at most k, and the combinations of their
-// choices fit the unused cells. The last three are no struct of their own, since a search works each out apart.
+// choices fit the unused cells. The last three stand side by side: a search keeps neither the neighbour sets nor the unused
+// cells, but works both out for each step.
 pub fn step<K: Picker>(
     picker: &K,
     choices: &[u8; 24],
@@ -35,10 +36,8 @@ pub fn step<K: Picker>(
     let question = Question::new(remaining, masks, *choices, k);
     let bay = picker.pick(&question);
     let near = question.neighbours(bay);
-    let cells = product(choices, near);
-    let folds = at_most(near, k) && cells <= unused as u128;
-    Step {
-        bay,
-        table: folds.then(|| cells as usize),
-    }
+    let table = usize::try_from(product(choices, near))
+        .ok()
+        .filter(|&cells| at_most(near, k) && cells <= unused);
+    Step { bay, table }
 }

@@ -24,7 +24,8 @@ fn trimmed(line: &[u8]) -> &[u8]
     line.strip_suffix(b"\n").unwrap_or(line)
 }
 
-// Answers each line, to the end of the input. The turns are counted since nothing says that input ends.
+// Answers each line, to the end of the input. Not by `split`, which takes the line feed off: that only it goes is what `trimmed` promises. So
+// the turns are counted, since nothing says that input ends.
 fn answer_lines(rt: &HostRuntime, book: &HouseBook<Cents>) -> io::Result<()> {
     let mut input = BufReader::new(rt.alloc(), rt.stdin())?;
     let mut line = Vec::new(rt.alloc());

@@ -1,7 +1,8 @@
 -- The least bay of a set, found one by one.
 use Rattle.std.specs.Prelude.{◌≡◌, ℕ, zero, suc, ◌+◌, ◌*◌, ◌^◌, ◌<◌, ◌≤◌, Bool, true, false, cond, not, ◌&&◌, ◌||◌, ◌⊎◌, List, [], ◌∷◌, ◌++◌, filter, Option, Some, None, ℤ, pos, negsuc, ◌==◌, ◌≢◌, int_le, nat_lt}
 use Rattle.std.proofs.Math.Path.{refl, sym, ap}
-use Rattle.std.proofs.Common.{subst, ◌∙◌, inl, inr, ⊎_elim, mul_comm, mul_assoc, add-mul, arith}
+use Rattle.std.proofs.Math.Nat.{mul_right_comm}
+use Rattle.std.proofs.Common.{subst, ◌∙◌, inl, inr, ⊎_elim, add-mul, arith}
 use Rattle.std.specs.Int.Count.{count_trailing_zeros}
 use Rattle.std.specs.List.{range_with_len, reduce}
 use Rattle.std.proofs.lemmas.List.{append-nil}
@@ -174,9 +175,6 @@ fewer_ranks q = record {
   past = λ a b c h k. lt-ltb (number q a) (number q c) (omega (arith, ltb-true (number q a) (number q b) h, ltb-false (number q c) (number q b) k));
 }
 
-swap : (x y z : ℕ) → (x * y) * z ≡ (x * z) * y
-swap x y z = mul_assoc x y z ∙ ap (λ (n : ℕ). x * n) (mul_comm y z) ∙ sym (mul_assoc x z y)
-
 -- a/b < c/d and c/d ≤ e/f give a/b < e/f
 crossed : (ta na tb nb tc nc : ℕ) → 0 < nb → 0 < nc → ta * nb < tb * na → tb * nc ≤ tc * nb → ta * nc < tc * na
 crossed ta na tb nb tc nc pb pc h k =
@@ -184,7 +182,7 @@ crossed ta na tb nb tc nc pb pc h k =
     (λ g. let one : (ta * nb + 1) * nc ≤ (tb * na) * nc = mul-le (ta * nb + 1) nc (tb * na) nc (omega arith) (omega arith) in
     let two : (tb * nc) * na ≤ (tc * nb) * na = mul-le (tb * nc) na (tc * nb) na k (omega arith) in
     let three : (tc * na) * nb ≤ (ta * nc) * nb = mul-le (tc * na) nb (ta * nc) nb g (omega arith) in
-    absurd (omega (arith, add-mul (ta * nb) 1 nc, swap ta nb nc, swap tb na nc, swap tc nb na)))
+    absurd (omega (arith, add-mul (ta * nb) 1 nc, mul_right_comm ta nb nc, mul_right_comm tb na nc, mul_right_comm tc nb na)))
     (cases_lt (ta * nc) (tc * na))
 
 abbrev lighter_at : ℕ → ℕ → ℕ → ℕ → Bool

@@ -14,7 +14,7 @@ use pickers::question::Question;
 #[derive(Clone, Copy)]
 pub struct Fewest;
 
-fn neighbours(question: &Question, bay: u8) -> u32
+fn count_of_neighbours(question: &Question, bay: u8) -> u32
     ensures is { result ≡ number question.now bay }
     ensures few { result ≤ 32 }
 {
@@ -25,7 +25,7 @@ fn neighbours(question: &Question, bay: u8) -> u32
 fn fewer(question: &Question, a: u8, b: u8) -> bool
     ensures { result ≡ fewer_of question.now a b }
 {
-    neighbours(question, a) < neighbours(question, b)
+    count_of_neighbours(question, a) < count_of_neighbours(question, b)
 }
 
 // Whether bay a has fewer choices for each neighbour than bay b, compared without dividing. A bay with no neighbours is
@@ -33,8 +33,8 @@ fn fewer(question: &Question, a: u8, b: u8) -> bool
 fn lighter(question: &Question, a: u8, b: u8) -> bool
     ensures { result ≡ lighter_of question.now a b }
 {
-    let of_a = neighbours(question, a);
-    let of_b = neighbours(question, b);
+    let of_a = count_of_neighbours(question, a);
+    let of_b = count_of_neighbours(question, b);
     0 < of_a
         && (of_b == 0
             || u32::from(question.choices(a)) * of_b < u32::from(question.choices(b)) * of_a)

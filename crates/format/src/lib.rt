@@ -1,4 +1,5 @@
-// The house layout of a book as bytes: what is accepted, and what is refused and why.
+// The house layout of a book as bytes: what is accepted, and what is refused and why. Only the contracts of the functions count: what they
+// answer means nothing.
 #![tactic(auto)]
 
 ghost use Rattle.format.specs.House.{Accepts, Refuses};

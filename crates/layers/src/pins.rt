@@ -36,7 +36,8 @@ impl<B> Pins<B> {
         ensures below { self.new.below ≡ self.old.below }
         ensures pins { (b : ℕ) → slice_index_or self.new.pins b None ≡ (if nat_eq bay b && nat_lt bay 24 then pin else slice_index_or self.old.pins b None) }
     {
-        // Not by `get_mut`: its contract says nothing of what the pins then are.
+        // `Suspensions` has the same line over its own array; a shared function would be no shorter. Not `get_mut`: its contract
+        // does not say what the pins then are.
         if bay < self.pins.len() {
             self.pins[bay] = pin;
         }

@@ -1,4 +1,4 @@
-// What layers do, as theorems over any book and price kind.
+// What layers do, as theorems over any book and price kind: only the contracts count, and what the functions answer means nothing.
 ghost use Rattle.layers.specs.Piles.{LayersSilent, LayersBar, SuspensionsSilence};
 
 // Where no layer speaks, a plan costs what it costs below.

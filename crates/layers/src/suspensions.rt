@@ -37,8 +37,8 @@ impl<B> Suspensions<B> {
         ensures below { self.new.below ≡ self.old.below }
         ensures off { (s : ℕ) → slice_index_or self.new.off s false ≡ (if nat_eq rule s && nat_lt rule 64 then on else slice_index_or self.old.off s false) }
     {
-        // As in `Pins`: one line over another array is no longer than a call of a function that both share. Not by `get_mut`,
-        // whose contract says nothing of which rules are then off.
+        // `Pins` has the same line over its own array; a shared function would be no shorter. Not `get_mut`: its contract does not
+        // say which rules are then off.
         if rule < self.off.len() {
             self.off[rule] = on;
         }

@@ -5,14 +5,14 @@ use Rattle.std.proofs.Common.{sym, ap, subst, ◌∙◌, ⊎_elim, add-mul, pow-
 use Rattle.std.proofs.Math.Nat.{pow-le-pow_right}
 use Rattle.std.proofs.lemmas.Nat.{mul-le}
 use Rattle.std.proofs.lemmas.List.{get_or_past}
-use Rattle.std.proofs.lemmas.Bool.{cases_lt, both_ways}
+use Rattle.std.proofs.lemmas.Slice.Zip.{get_or-zip, length-zip}
+use Rattle.std.proofs.lemmas.Bool.{and_parts, cases_lt, both_ways}
 use Rattle.model.specs.Books.{begins}
 use Rattle.model.specs.Sets.{bit, has, one}
 use Rattle.model.proofs.Bits.{bit_one_same}
 use Rattle.books.proofs.Plans.{begins_next, begins_not}
 use Rattle.format.specs.House.{cells_in, Rising}
 use Rattle.layout.specs.Meant.{mask_of, place_of}
-use Rattle.reader.proofs.Fronts.{both}
 use Rattle.layout.specs.Masks.{has_left, has_right}
 
 pub place_small : (n s : ℕ) → s < 256 ^ (4 - n) → s ≤ 4294967296
@@ -26,10 +26,6 @@ place_step n s a p one four h k l =
     let e : 4 - (n - 1) ≡ suc (4 - n) = omega arith in
     let m : s * a ≤ s * 255 = mul-le s a s 255 (omega arith) k in
     rw (e, pow-suc) (omega arith)
-
-pub pow_some : (n : ℕ) → 0 < 256 ^ n
-pow_some zero = omega arith
-pow_some (suc n) = let h = pow_some n in rw pow-suc (omega arith)
 
 -- a plan's place lies in the table
 pub place_below : (cs plan scope : List ℕ) (lo bays : ℕ) → Rising lo bays scope → ((i : ℕ) → i < bays → slice_index plan i < slice_index cs i) → (at : ℕ) → place_of cs plan at scope < (at + 1) * cells_in cs scope
@@ -58,7 +54,7 @@ default_le (x ∷ plan) (suc i) = default_le plan i
 pub begins_at : (choices : ℕ → ℕ) (n : ℕ) (plan : List ℕ) → begins choices n plan ≡ true → (i : ℕ) → i < n → slice_index plan i < choices i
 begins_at choices zero plan e i h = absurd (omega arith)
 begins_at choices (suc n) plan e i h =
-    let p = both (begins choices n plan) (nat_lt (slice_index_or plan n 255) (choices n)) e in
+    let p = and_parts (begins choices n plan) (nat_lt (slice_index_or plan n 255) (choices n)) e in
     ⊎_elim (λ lt. begins_at choices n plan p.0 i lt)
     (λ ge. let same : n ≡ i = omega arith in
     let here : get_or plan n 255 < choices n = ltb-true _ _ p.1 in
@@ -75,29 +71,18 @@ begins_long choices n plan few e =
     (λ long. long)
     (cases_lt (length plan) n)
 
-zip_at : (cs plan : List ℕ) (k : ℕ) → k < length cs → length cs ≤ length plan → slice_index_or (zip cs plan) k (0, 255) ≡ (slice_index cs k, slice_index_or plan k 255)
-zip_at [] plan k h l = absurd (omega arith)
-zip_at (c ∷ cs) [] k h l = absurd (omega arith)
-zip_at (c ∷ cs) (p ∷ plan) zero h l = refl
-zip_at (c ∷ cs) (p ∷ plan) (suc k) h l = zip_at cs plan k (omega arith) (omega arith)
-
-zip_long : (cs plan : List ℕ) → length cs ≤ length plan → length (zip cs plan) ≡ length cs
-zip_long [] plan l = refl
-zip_long (c ∷ cs) [] l = absurd (omega arith)
-zip_long (c ∷ cs) (p ∷ plan) l = ap suc (zip_long cs plan (omega arith))
-
 zip_begins : (cs plan : List ℕ) (n : ℕ) → length cs ≤ length plan → n ≤ length cs → AllWithin (λ p. p.1 < p.0) (zip cs plan) 0 (length (zip cs plan)) → begins (λ i. slice_index cs i) n plan ≡ true
 zip_begins cs plan zero l h all = refl
 zip_begins cs plan (suc n) l h all =
-    let here : slice_index_or plan n 255 < slice_index cs n = subst (λ (p : ℕ × ℕ). p.1 < p.0) (zip_at cs plan n (omega arith) l) (all n (0, 255) (omega arith) (omega (arith, zip_long cs plan l))) in
+    let here : slice_index_or plan n 255 < slice_index cs n = subst (λ (p : ℕ × ℕ). p.1 < p.0) (get_or-zip cs plan n (0, 255) (omega arith) (omega arith)) (all n (0, 255) (omega arith) (omega (arith, length-zip cs plan))) in
     subst (λ (k : ℕ). begins (λ i. slice_index cs i) k plan ≡ true) (let e : n + 1 ≡ suc n = omega arith in e) (begins_next (λ i. slice_index cs i) n plan (zip_begins cs plan n l (omega arith) all) here)
 
 -- bytes that are no shorter begin with a plan where each is a choice below its count
 pub begins_by_zip : (cs plan : List ℕ) (r : Bool) → length cs ≤ length plan → MatchBool r (AllWithin (λ p. p.1 < p.0) (zip cs plan) 0 (length (zip cs plan))) ((k : ℕ) × (k < length (zip cs plan)) × HoldsAt (λ p. p.0 ≤ p.1) (zip cs plan) k) → r ≡ begins (λ i. slice_index cs i) (length cs) plan
 begins_by_zip cs plan true l h = sym (zip_begins cs plan (length cs) l (omega arith) h)
 begins_by_zip cs plan false l h =
-    let in_cs : h.0 < length cs = omega (arith, h.1, zip_long cs plan l) in
-    sym (begins_not (λ i. slice_index cs i) (length cs) h.0 plan in_cs (subst (λ (p : ℕ × ℕ). p.0 ≤ p.1) (zip_at cs plan h.0 in_cs l) (h.2 (0, 255))))
+    let in_cs : h.0 < length cs = omega (arith, h.1, length-zip cs plan) in
+    sym (begins_not (λ i. slice_index cs i) (length cs) h.0 plan in_cs (subst (λ (p : ℕ × ℕ). p.0 ≤ p.1) (get_or-zip cs plan h.0 (0, 255) in_cs (omega arith)) (h.2 (0, 255))))
 
 -- bytes that are shorter begin with none
 pub begins_short : (cs plan : List ℕ) → length plan < length cs → slice_index cs (length plan) ≤ 255 → begins (λ i. slice_index cs i) (length cs) plan ≡ false

@@ -1,7 +1,9 @@
 -- The layout of a book that keeps a copy of its bytes.
-
+use Rattle.std.specs.Prelude.{◌≡◌, ℕ, ◌<◌, List, length, drop, slice_index}
 use Rattle.format.specs.House.{Layout}
 use Rattle.reader.specs.Indexed.{layout_by}
+use Rattle.reader.specs.Places.{table_at}
+use Rattle.layout.specs.Meant.{nth_rule}
 use Rattle.layout.specs.declared.kept.Kept.{Kept}
 use Rattle.layout.specs.declared.book.HouseBook.{HouseBook}
 
@@ -10,3 +12,9 @@ kept_layout k = layout_by k.bytes.items k.index
 
 abbrev pub layout_of : {P : Type 0} → HouseBook P → Layout
 layout_of b = kept_layout b.kept
+
+-- the bays of a rule that the book has, and the bytes from its prices on
+pub record StandsAt (k : Kept) (rule : ℕ) (bays rest : List ℕ) : Type 0 where
+  pub there : rule < length k.index.rule_at.items
+  pub scope : bays ≡ (nth_rule (kept_layout k) rule).scope
+  pub table : rest ≡ drop (table_at k.bytes.items (slice_index k.index.rule_at.items rule)) k.bytes.items

@@ -1,5 +1,4 @@
 pub mod Meant
-pub mod Viewed
 pub mod Kept
 pub mod MeantLemmas
 pub mod Masks

@@ -33,7 +33,7 @@ fn kept(body: &[u8], index: Index) -> Kept
     }
 }
 
-// The book that the bytes are, or the first fault from the start.
+// The book that the bytes are, or the first fault from the start. A function and no `TryFrom`: `read` is its public name.
 pub fn read<P: Stored>(bytes: &[u8]) -> Result<HouseBook<P>, Refusal>
     ensures accepted { IfOk result (λ b. FitsBook P.letters P.top (layout_of b) × (bytes.now ≡ book_bytes P.letters (layout_of b))) }
     ensures refused { IfErr result (λ e. Refused P.letters P.top bytes.now e) }

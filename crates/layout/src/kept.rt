@@ -1,4 +1,5 @@
-// A copy of the bytes of a book after its mark and version, with their index. Nothing is allocated.
+// A copy of the bytes of a book after its mark and version, with their index. Nothing is allocated. Its methods stand in
+// `told`, since their contracts cite definitions over this struct.
 ghost use Rattle.reader.specs.Indexed.{Found};
 
 use arrayvec::ArrayVec;

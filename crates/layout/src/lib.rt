@@ -6,8 +6,6 @@ mod copy;
 mod kept;
 mod tables;
 mod told;
-mod view;
-mod views;
 
 pub use book::HouseBook;
 pub use copy::read;

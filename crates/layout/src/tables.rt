@@ -39,7 +39,8 @@ fn next_place(so_far: usize, choices: u8, choice: u8) -> usize
     so_far * usize::from(choices) + usize::from(choice)
 }
 
-// The place of a plan's cell among the cells of a rule over these bays.
+// The place of a plan's cell among the cells of a rule over these bays. It calls itself for each bay and takes no type
+// parameter, since that form is asked for.
 pub(crate) fn place(counts: &[u8], scope: &[u8], plan: &[u8], so_far: usize) -> usize
     requires few { length scope.now ≤ 4 }
     requires small { so_far < 256 ^ (4 - length scope.now) }

@@ -1,73 +1,88 @@
-// A house book is a book.
-ghost use Rattle.std.specs.Prelude.{◌≡◌};
-ghost use Rattle.layout.specs.Kept.{layout_of, kept_layout};
-ghost use Rattle.layout.specs.Meant.{meaning_of, priced};
-ghost use Rattle.layout.specs.Viewed.{viewed};
-ghost use Rattle.std.proofs.Math.Logic.{∥∥₁_map};
-ghost use Rattle.layout.specs.MeantLemmas.{meant_lawful};
+// What a book tells, read from its copy.
+ghost use Rattle.std.specs.Prelude.{◌≡◌, ◌≤◌, true, length, MatchOption};
+ghost use Rattle.format.specs.House.{counts_of};
+ghost use Rattle.layout.specs.Kept.{kept_layout, StandsAt};
+ghost use Rattle.layout.specs.Meant.{mask_of, choices_in, own_in, cell_in, nth_rule, planned_in};
 
-use crate::book::HouseBook;
 use crate::kept::Kept;
-use crate::view::View;
-use books::book::Book;
-use prices::price::Price;
-use prices::stored::Stored;
+use crate::tables::{from_place, mask, nth_price, place};
 
 impl Kept {
-    fn view(&self) -> View<'_>
-        ensures { viewed result ≡ kept_layout self.now }
+    fn body(&self) -> &[u8]
+        ensures { result.now ≡ self.now.bytes.items }
     {
-        View {
-            body: self.bytes.as_slice(),
-            index: &self.index,
+        self.bytes.as_slice()
+    }
+
+    pub(crate) fn bays(&self) -> usize
+        ensures { result ≡ length (kept_layout self.now).own }
+    {
+        self.index.own_at.len()
+    }
+
+    pub(crate) fn rules(&self) -> usize
+        ensures { result ≡ length (kept_layout self.now).rules }
+    {
+        self.index.rule_at.len()
+    }
+
+    // The choices of each bay, which stand after the two counts.
+    fn counts(&self) -> &[u8]
+        ensures { result.now ≡ counts_of (kept_layout self.now) }
+    {
+        &self.body()[2..2 + self.bays()]
+    }
+
+    pub(crate) fn choices(&self, bay: usize) -> u8
+        ensures { result ≡ choices_in (kept_layout self.now) bay }
+    {
+        self.counts().get(bay).copied().unwrap_or(0)
+    }
+
+    // The own price of a bay's choice.
+    pub(crate) fn own(&self, bay: usize, choice: u8) -> Option<u32>
+        ensures { result ≡ own_in (kept_layout self.now) bay choice }
+    {
+        let row = from_place(self.body(), self.index.own_at.as_slice(), bay)?;
+        if choice >= self.choices(bay) {
+            return None;
         }
-    }
-}
-
-// The price of a cell; forbidden where there is none. A `match`: Rattle does not cover `map_or` and the like with a function
-// whose result is a bare type parameter.
-fn priced_at<P: Stored>(cell: Option<u32>) -> P
-    ensures { result ≡ priced P.ops P.cell cell }
-{
-    match cell {
-        Some(n) => P::from_cell(n),
-        None => P::forbidden(),
-    }
-}
-
-impl<P: Stored> Book for HouseBook<P> {
-    type Cost = P;
-
-    ghost meaning = { λ b. meaning_of P.ops P.cell (layout_of b) };
-
-    ghost lawful = { λ b. meant_lawful P.ops P.cell (layout_of b) 4294967295 (∥∥₁_map b.kept.found (λ f. f.fits)) };
-
-    fn bays(&self) -> usize {
-        self.kept.view().bays()
+        Some(nth_price(row, usize::from(choice)))
     }
 
-    fn rules(&self) -> usize {
-        self.kept.view().rules()
+    // The bays of a rule, where they stand, and its prices with all that follows them.
+    fn rule(&self, rule: usize) -> Option<(&[u8], &[u8])>
+        ensures { MatchOption result (length self.now.index.rule_at.items ≤ rule) (λ p. StandsAt self.now rule p.0.now p.1.now) }
+    {
+        let rest = from_place(self.body(), self.index.rule_at.as_slice(), rule)?;
+        Some(rest[1..].split_at(usize::from(rest[0])))
     }
 
-    fn choices(&self, bay: usize) -> u8 {
-        self.kept.view().choices(bay)
+    // The bays of a rule as a set. No `map_or`: what `mask` requires would have to be shown once more, of its closure.
+    pub(crate) fn scope(&self, rule: usize) -> u32
+        ensures { result ≡ mask_of (nth_rule (kept_layout self.now) rule).scope }
+    {
+        let Some((scope, _)) = self.rule(rule) else {
+            return 0;
+        };
+        mask(scope)
     }
 
-    fn own(&self, bay: usize, choice: u8) -> P {
-        priced_at(self.kept.view().own(bay, choice))
+    // Whether the bytes begin with a choice for every bay. Rattle does not cover a call of `books::plan::is_plan` on the book
+    // within its own `impl Book`: a method of the block leads back to the function that calls.
+    pub(crate) fn is_plan(&self, plan: &[u8]) -> bool
+        ensures { result ≡ planned_in (kept_layout self.now) plan.now }
+    {
+        let counts = self.counts();
+        plan.len() >= counts.len() && counts.iter().zip(plan).all(|(n, choice)| choice < n)
     }
 
-    fn scope(&self, rule: usize) -> u32 {
-        self.kept.view().scope(rule)
-    }
-
-    fn price(&self, rule: usize, plan: &[u8]) -> P {
-        let view = self.kept.view();
-        if view.is_plan(plan) {
-            priced_at(view.cell(rule, plan))
-        } else {
-            P::forbidden()
-        }
+    // The cell of a rule under a plan.
+    pub(crate) fn cell(&self, rule: usize, plan: &[u8]) -> Option<u32>
+        requires { planned_in (kept_layout self.now) plan.now ≡ true }
+        ensures { result ≡ cell_in (kept_layout self.now) rule plan.now }
+    {
+        let (scope, table) = self.rule(rule)?;
+        Some(nth_price(table, place(self.counts(), scope, plan, 0)))
     }
 }

@@ -12,7 +12,7 @@ use Rattle.model.proofs.Listed.{decide_in}
 use Rattle.model.proofs.Adjacent.{kept, Agree, decide_agree, agree_drop, agree_connect}
 
 -- what a fold makes of the neighbours
-any_keep : {A : Type 0} (p q : A → Bool) (xs : List A) → any p (keep q xs) ≡ any (λ x. q x && p x) xs
+pub any_keep : {A : Type 0} (p q : A → Bool) (xs : List A) → any p (keep q xs) ≡ any (λ x. q x && p x) xs
 any_keep p q [] = refl
 any_keep p q (x ∷ xs) = go (q x) (any_keep p q xs)
   where

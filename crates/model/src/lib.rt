@@ -1,4 +1,5 @@
-// The theory of the planner: definitions in specs/, and the theorems over them, each named by a contract here.
+// The theory of the planner: definitions in specs/, and the theorems over them, each named by a contract here. What the functions answer
+// means nothing.
 #![tactic(auto)]
 
 ghost use Rattle.model.specs.Claims.{CourseLists, ForecastCounts};

@@ -16,7 +16,7 @@ made f P b here past =
     (λ g. subst P (sym (get_or_past (map f (range_with_len 0 24)) b 0 (omega (arith, length-map-range_with_len f 0 24)))) past)
     (cases_lt b 24)
 
-seen_has : (m near b i : ℕ) → has (seen m near b) i ≡ (has m b && ((has near i && has m i) && not (eqb b i)))
+pub seen_has : (m near b i : ℕ) → has (seen m near b) i ≡ (has m b && ((has near i && has m i) && not (eqb b i)))
 seen_has m near b i = go (has m b)
   where
     go : (t : Bool) → has (cond t (minus (bit_and near m) (one b)) 0) i ≡ (t && ((has near i && has m i) && not (eqb b i)))

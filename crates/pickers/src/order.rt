@@ -29,7 +29,8 @@ fn gathered(list: &[u8; 24]) -> u32
 }
 
 impl Order {
-    // The order that a list gives; refused unless it has each number from 0 to 23 once.
+    // The order that a list gives; refused unless it has each number from 0 to 23 once. A function and no `TryFrom`: `new` is its
+    // public name.
     pub fn new(list: &[u8]) -> Result<Order, Refusal>
         ensures { MatchResult result (λ o. (permutes list.now ≡ true) × (o.bays ≡ list.now)) (λ e. (permutes list.now ≡ false) × (number_of e ≡ 14)) }
     {
@@ -43,7 +44,7 @@ impl Order {
         }
     }
 
-    // The order from 0 to 23.
+    // The order from 0 to 23. `as` loses none of an index below 24, and no `From` narrows one.
     pub fn rising() -> Order
         ensures { result.bays ≡ range_with_len 0 24 }
     {
@@ -68,6 +69,7 @@ impl Picker for Order {
             .rev()
             .copied()
             .find(|&bay| has(question.remaining, bay))
+            // Where none remains, any number may be answered.
             .unwrap_or(0)
     }
 }

@@ -34,6 +34,7 @@ fn kept_at(remaining: u32, choices: u8, bay: u8) -> u8
 }
 
 impl Question {
+    // Each index is below 24, so `as` loses none, and no `From` narrows one.
     pub fn new(remaining: u32, neighbours: [u32; 24], choices: [u8; 24], k: i8) -> Question
         ensures is { result ≡ asked remaining neighbours choices k }
         ensures canonical { Canonical result }

@@ -58,6 +58,7 @@ impl<const TOP: u32> Upto<TOP> {
         }
     }
 
+    // The same as `u32::from`, for where a method reads better: the type asked for need not be named.
     pub fn number(self) -> u32
         ensures { result ≡ self.entry.number }
     {
@@ -99,6 +100,7 @@ where
         self <= other
     }
 
+    // Beside `try_from`: any price kind answers an offer by an option, whatever its error would be.
     fn accept(offer: u32) -> Option<Upto<TOP>> {
         Upto::try_from(offer).ok()
     }

@@ -10,7 +10,8 @@ use crate::price::Price;
 use crate::upto::Upto;
 
 pub trait Stored: Price {
-    // The mark as a number of three bytes, the high byte first.
+    // The mark as a number of three bytes, the high byte first. It stands in `Counted` too: a kind that counts no amount can be
+    // stored as well, and callers name the mark by either trait, which one trait above both would take from them.
     ghost letters: { ℕ };
 
     ghost top: { ℕ };

@@ -79,7 +79,8 @@ fn walk(body: &[u8], top: u32) -> Result<Index, Refusal>
     Ok(Index { own_at, rule_at })
 }
 
-// An index of the bytes, where the layout's reading accepts them.
+// An index of the bytes, where the layout's reading accepts them. Apart from `index`, since each of its three ways to return
+// would have to show both clauses.
 fn found<P: Stored>(bytes: &[u8]) -> Result<Index, Refusal>
     ensures { MatchResult result (λ i. Indexes P.letters P.top bytes.now i) (λ e. book_in P.letters P.top bytes.now ≡ bad e) }
 {

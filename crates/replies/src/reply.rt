@@ -36,7 +36,7 @@ pub fn course_by<B: Book, K: Picker>(
     }
 }
 
-// The course of the book by the order from 0 to 23.
+// The course of the book by the order from 0 to 23. `as`, since no `From` makes a `usize` of a `u32`; none of it is lost.
 fn course_reply<B: Book>(heap: Global, book: &B, k: i64, cells: u32) -> Result<String, AllocError>
     ensures { IfOk result (λ s. string_bytes s ≡ course_answer (B.meaning book.now) k cells) }
 {

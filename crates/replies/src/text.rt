@@ -10,7 +10,8 @@ use refusals::Refusal;
 use search::answer::Planned;
 use std::fmt;
 
-// What is told of one bay, after a space.
+// What is told of one bay, after a space. A trait of its own: a `Display` of `Line` could only stand in the crate of `Line`,
+// which prints nothing, and a wrapper for each would be two types for one trait.
 trait Piece {
     ghost text: { Self → List ℕ };
 
@@ -24,11 +25,8 @@ impl Piece for Line {
 
     fn tell<W: fmt::Write>(&self, f: &mut fmt::Formatter<W>) -> fmt::Result {
         let bay = self.bay;
-        if self.folded {
-            write!(f, " {bay} f")
-        } else {
-            write!(f, " {bay} b")
-        }
+        let letter = if self.folded { 'f' } else { 'b' };
+        write!(f, " {bay} {letter}")
     }
 }
 

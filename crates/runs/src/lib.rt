@@ -1,4 +1,4 @@
-// Courses and plans on an evening, and whole runs of requests to one.
+// Courses and plans on an evening, and what a request to one and its response are.
 #![tactic(auto)]
 
 pub mod planning;

@@ -5,7 +5,8 @@ use search::answer::Planned;
 use trials::rack::{Action, Outcome};
 
 // `cells` is how many of the cells that are lent a course or a plan may count on; `ceiling` is an offered price.
-#[derive(Clone, Copy)]
+// What a plan is sought with stands side by side, as in a command.
+#[derive(Clone, Copy, Debug, PartialEq, Eq)]
 pub enum Request<O> {
     Act(Action),
     Course {
@@ -20,8 +21,9 @@ pub enum Request<O> {
     },
 }
 
-// The lines of a course and the bytes of a plan stand first, and what is after them is blank.
-#[derive(Clone, Copy)]
+// The lines of a course and the bytes of a plan stand first, and what is after them is blank: both are whole arrays, since an
+// exchange is copied, and all that it holds has one size.
+#[derive(Clone, Copy, Debug, PartialEq, Eq)]
 pub enum Response<P> {
     Act(Outcome),
     Course {
@@ -35,7 +37,7 @@ pub enum Response<P> {
 }
 
 // A request, and beside it what was answered.
-#[derive(Clone, Copy)]
+#[derive(Clone, Copy, Debug, PartialEq, Eq)]
 pub struct Exchange<O, P> {
     pub request: Request<O>,
     pub response: Response<P>,

@@ -1,4 +1,4 @@
-// Requests to an evening, one by one and in whole runs: begun with the buffer that a course is written into.
+// The lines of a response before a course is written into them.
 ghost use Rattle.std.specs.Prelude.{◌≡◌};
 ghost use Rattle.runs.specs.Runs.{blank_lines};
 

@@ -27,6 +27,7 @@ use Rattle.search.specs.Places.{members, bays_from, byte_of}
 use Rattle.search.specs.Decisions.{Decides}
 use Rattle.search.specs.Visit.{is_near, setup_of, Decided}
 use Rattle.search.specs.declared.decide.Table.{Table}
+use Rattle.search.specs.declared.state.Left.{Left}
 use Rattle.search.specs.declared.state.Line.{Line}
 use Rattle.search.specs.declared.state.Search.{Search}
 
@@ -131,14 +132,14 @@ step_decides {P} K m pick remains s remaining force used cells nears some small 
     used_is r rs e t = sym (ap (λ (x : Taken). unwrap_or x.table 0) (says r rs e)) ∙ ap (λ (x : Bool). unwrap_or (if x then Some (next r rs).cells else None) 0) (same_fold r rs e ∙ t)
 
 -- what a decision says, with a table and with none
-module _ {P : Type 0} (K : Ops P) (m : Meaning P) (pick : Answers) (s : Search P) (remaining : ℕ) (force : List Bool) (used : ℕ) (cells : List P) (b : ℕ) where
-  pub decides : (t : Maybe ℕ) (near : ℕ) → Decided K m pick s remaining force used cells b (is_some t) near (unwrap_or t 0) → (r : Maybe Table)
-      → r ≡ option_map (λ (size : ℕ). record { near = near; size = size }) t → Decides K m pick s remaining force used cells (record { bay = b; table = r })
+module _ {P : Type 0} (K : Ops P) (m : Meaning P) (pick : Answers) (s : Search P) (left : Left) (cells : List P) (b : ℕ) where
+  pub decides : (t : Maybe ℕ) (near : ℕ) → Decided K m pick s left.remaining left.force.now left.used cells b (is_some t) near (unwrap_or t 0) → (r : Maybe Table)
+      → r ≡ option_map (λ (size : ℕ). record { near = near; size = size }) t → Decides K m pick s left cells (record { bay = b; table = r })
   decides None near d r e = rw e (near, 0, d)
   decides (Some size) near d r e = rw e d
 
-  pub by_table : (r : Maybe Table) → Decides K m pick s remaining force used cells (record { bay = b; table = r }) → (t : Table) → r ≡ Some t → Decided K m pick s remaining force used cells b true t.near t.size
+  pub by_table : (r : Maybe Table) → Decides K m pick s left cells (record { bay = b; table = r }) → (t : Table) → r ≡ Some t → Decided K m pick s left.remaining left.force.now left.used cells b true t.near t.size
   by_table r d t e = rw e at d
 
-  pub by_none : (r : Maybe Table) → Decides K m pick s remaining force used cells (record { bay = b; table = r }) → r ≡ None → (near size : ℕ) × Decided K m pick s remaining force used cells b false near size
+  pub by_none : (r : Maybe Table) → Decides K m pick s left cells (record { bay = b; table = r }) → r ≡ None → (near size : ℕ) × Decided K m pick s left.remaining left.force.now left.used cells b false near size
   by_none r d e = rw e at d

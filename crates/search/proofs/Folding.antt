@@ -17,7 +17,8 @@ use Rattle.model.specs.Sets.{has}
 use Rattle.model.specs.Terms.{Plan, put, Term, Fold, least, cost, cost_stable, touching, others, folded, Legal, Completes}
 use Rattle.search.proofs.Deciding.{share_is}
 use Rattle.search.proofs.Folds.{terms_kept, folds_in, folds_kept}
-use Rattle.search.proofs.Kits.{clash, any_keep}
+use Rattle.model.proofs.Visits.{any_keep}
+use Rattle.search.proofs.Kits.{clash}
 use Rattle.model.specs.Searched.{within}
 use Rattle.search.proofs.Members.{members_sound, members_complete, keep_members, map_members, keep_map, members_add}
 use Rattle.search.proofs.Readings.{block_read}

@@ -19,6 +19,7 @@ use Rattle.search.specs.Force.{Told, told, nth_line, line_at, flag, scope_mask, 
 use Rattle.search.specs.Places.{bays_from, byte_of, Open, Few}
 use Rattle.search.specs.Visit.{setup_of, sofar, set_in, ChoicesOk, folds_of, Tabled, Stack, State, Kept, Same, Framed, after, tried, visited}
 use Rattle.search.specs.declared.decide.Table.{Table}
+use Rattle.search.specs.declared.state.Left.{Left}
 use Rattle.search.specs.declared.state.Line.{Line}
 use Rattle.search.specs.declared.state.Passed.TheVariants.{Folded}
 use Rattle.search.specs.declared.state.Search.{Search}
@@ -51,51 +52,39 @@ fold_ok cs b used force t few near_open short whole = record { has_choices = nea
     bound bs l = omega (arith, product_small cs bs few, eight_four (length bs) l)
 
 module _ {P : Type 0} (K : Ops P) (m : Meaning P) where
-  -- a line pushed for a branch
-  pub branch_state : (a p : Search P) (rest : ℕ) (force : List Bool) (used total : ℕ) (line : Line) → State m a a.depth rest force used total → a.depth + length (bays_from rest 0) < 24
-      → p.depth ≡ a.depth + 1 → p.lines ≡ set a.lines a.depth line → Same a p → State m p (p.depth - 1) rest force used total
-  branch_state a p rest force used total line st deeper depth lines same =
-      let k : Kept a.lines p.lines a.depth = rw lines (set_kept a.lines a.depth line) in
-      let d : p.depth - 1 ≡ a.depth = omega arith in
-      let cs = a.choices in
-      let inside : a.depth < length a.lines = omega (arith, a.long) in
-      make_state m p cs (p.depth - 1) rest force used total same.choices st.fits
-      st.few (rw d (choices_kept cs a.lines p.lines a.depth k st.legal)) st.opened st.small (omega arith) st.room
-      (rw d (tabled_kept a.lines p.lines a.depth force k st.tabled)) (rw d (stack_kept cs a.lines p.lines a.depth used k st.stack))
-
   -- a line pushed for a fold
-  pub fold_state : (a p : Search P) (b : ℕ) (t : Table) (remaining rest : ℕ) (force after' : List Bool) (used total : ℕ) → State m a a.depth remaining force used total → a.depth + length (bays_from rest 0) < 24
-      → p.depth ≡ a.depth + 1 → p.lines ≡ set a.lines a.depth (record { bay = b; passed = Folded force t used }) → Same a p
-      → b < 24 → 0 < get_or a.choices b 0 → Open a.choices t.near → Open a.choices rest → rest < 2 ^ 24 → length (bays_from t.near 0) ≤ 4 → t.size ≡ product (byte_of a.choices) (bays_from t.near 0) → used + t.size ≤ total
-      → ((j : ℕ) → flag after' j ≡ after m a.lines force b a.depth j) → State m p p.depth rest after' (used + t.size) total
-  fold_state a p b t remaining rest force after' used total st deeper depth lines same b< some near_open rest_open rest_small short whole room afters =
+  pub fold_state : (a p : Search P) (b : ℕ) (t : Table) (left next : Left) (total : ℕ) → State m a a.depth left total → a.depth + length (bays_from next.remaining 0) < 24
+      → p.depth ≡ a.depth + 1 → p.lines ≡ set a.lines a.depth (record { bay = b; passed = Folded left.force.now t left.used }) → Same a p
+      → b < 24 → 0 < get_or a.choices b 0 → Open a.choices t.near → Open a.choices next.remaining → next.remaining < 2 ^ 24 → length (bays_from t.near 0) ≤ 4 → t.size ≡ product (byte_of a.choices) (bays_from t.near 0) → left.used + t.size ≤ total → next.used ≡ left.used + t.size
+      → ((j : ℕ) → flag next.force.now j ≡ after m a.lines left.force.now b a.depth j) → State m p p.depth next total
+  fold_state a p b t left next total st deeper depth lines same b< some near_open rest_open rest_small short whole room more afters =
       let cs = a.choices in
       let d = a.depth in
-      let line : Line = record { bay = b; passed = Folded force t used } in
+      let line : Line = record { bay = b; passed = Folded left.force.now t left.used } in
       let inside : d < length a.lines = omega (arith, a.long) in
       let k : Kept a.lines p.lines d = rw lines (set_kept a.lines d line) in
       let at : line_at p.lines d ≡ told line = rw lines (set_at a.lines d line inside) in
-      let old : Tabled p.lines d force = tabled_kept a.lines p.lines d force k st.tabled in
-      make_state m p cs p.depth rest after' (used + t.size) total same.choices st.fits
-      st.few (rw depth (choices_up cs p.lines d (choices_kept cs a.lines p.lines d k st.legal) (λ f. clash (ap (λ (l : Told). l.folded) at) f))) rest_open rest_small (omega arith) room
-      (rw depth (tabled_new p.lines d old (ap (λ (l : Told). l.folded) at) a.lines afters)) (rw depth (stack_new cs p.lines d old at (stack_kept cs a.lines p.lines d used k st.stack) b< some))
+      let old : Tabled p.lines d left.force.now = tabled_kept a.lines p.lines d left.force.now k st.tabled in
+      make_state m p cs p.depth next total same.choices st.fits
+      st.few (rw depth (choices_up cs p.lines d (choices_kept cs a.lines p.lines d k st.legal) (λ f. clash (ap (λ (l : Told). l.folded) at) f))) rest_open rest_small (omega arith) (omega arith)
+      (rw depth (tabled_new p.lines d old (ap (λ (l : Told). l.folded) at) a.lines afters)) (rw (depth, more) (stack_new cs p.lines d old at (stack_kept cs a.lines p.lines d left.used k st.stack) b< some))
     where
-      tabled_new : (lines : List Line) (d : ℕ) → Tabled lines d force → (line_at lines d).folded ≡ true → (lines₀ : List Line) → ((j : ℕ) → flag after' j ≡ after m lines₀ force b d j) → Tabled lines (d + 1) after'
+      tabled_new : (lines : List Line) (d : ℕ) → Tabled lines d left.force.now → (line_at lines d).folded ≡ true → (lines₀ : List Line) → ((j : ℕ) → flag next.force.now j ≡ after m lines₀ left.force.now b d j) → Tabled lines (d + 1) next.force.now
       tabled_new lines d old f lines₀ afters j on h = go (eqb j (88 + d)) refl (sym (afters j) ∙ on)
         where
-          go : (x : Bool) → eqb j (88 + d) ≡ x → cond x true (flag force j && not (has (scope_mask m lines₀ j) b)) ≡ true → (j - 88 < d + 1) × ((line_at lines (j - 88)).folded ≡ true)
+          go : (x : Bool) → eqb j (88 + d) ≡ x → cond x true (flag left.force.now j && not (has (scope_mask m lines₀ j) b)) ≡ true → (j - 88 < d + 1) × ((line_at lines (j - 88)).folded ≡ true)
           go true q e = let z = eqb-true j (88 + d) q in let y : j - 88 ≡ d = omega arith in (omega arith, ap (λ (x : ℕ). (line_at lines x).folded) y ∙ f)
-          go false q e = let r = old j (and_parts (flag force j) _ e).0 h in (omega (arith, r.0), r.1)
+          go false q e = let r = old j (and_parts (flag left.force.now j) _ e).0 h in (omega (arith, r.0), r.1)
 
-      stack_new : (cs : List ℕ) (lines : List Line) (d : ℕ) → Tabled lines d force → line_at lines d ≡ told (record { bay = b; passed = Folded force t used }) → Stack cs lines d used → b < 24 → 0 < get_or cs b 0 → Stack cs lines (d + 1) (used + t.size)
+      stack_new : (cs : List ℕ) (lines : List Line) (d : ℕ) → Tabled lines d left.force.now → line_at lines d ≡ told (record { bay = b; passed = Folded left.force.now t left.used }) → Stack cs lines d left.used → b < 24 → 0 < get_or cs b 0 → Stack cs lines (d + 1) (left.used + t.size)
       stack_new cs lines d old at s b< some = record {
-        tables = λ e h f. elim (dec_lt e d) [ yes lt ↦ omega (arith, s.tables e lt f) | no ge ↦ (let z : e ≡ d = omega arith in subst (λ (l : Told). l.offset + l.size ≤ used + t.size) (sym (ap (line_at lines) z ∙ at)) (le_refl (used + t.size))) ];
-        forces = λ e h f. elim (dec_lt e d) [ yes lt ↦ tabled_up lines d (line_at lines e).force (s.forces e lt f) | no ge ↦ (let z : e ≡ d = omega arith in subst (λ (l : Told). Tabled lines (d + 1) l.force) (sym (ap (line_at lines) z ∙ at)) (tabled_up lines d force old)) ];
+        tables = λ e h f. elim (dec_lt e d) [ yes lt ↦ omega (arith, s.tables e lt f) | no ge ↦ (let z : e ≡ d = omega arith in subst (λ (l : Told). l.offset + l.size ≤ left.used + t.size) (sym (ap (line_at lines) z ∙ at)) (le_refl (left.used + t.size))) ];
+        forces = λ e h f. elim (dec_lt e d) [ yes lt ↦ tabled_up lines d (line_at lines e).force (s.forces e lt f) | no ge ↦ (let z : e ≡ d = omega arith in subst (λ (l : Told). Tabled lines (d + 1) l.force) (sym (ap (line_at lines) z ∙ at)) (tabled_up lines d left.force.now old)) ];
         bays = λ e h f. elim (dec_lt e d) [ yes lt ↦ s.bays e lt f | no ge ↦ (let z : e ≡ d = omega arith in subst (λ (l : Told). (l.bay < 24) × (0 < get_or cs l.bay 0)) (sym (ap (line_at lines) z ∙ at)) (b<, some)) ];
       }
 
   -- the newest line one choice on
-  module _ (a u v : Search P) (rest : ℕ) (force : List Bool) (used total total' b c : ℕ) (st : State m a (a.depth - 1) rest force used total) (opens : 0 < a.depth)
+  module _ (a u v : Search P) (left : Left) (total total' b c : ℕ) (st : State m a (a.depth - 1) left total) (opens : 0 < a.depth)
       (f : Framed (a.depth - 1) a u) (newest_bay : (line_at u.lines (u.depth - 1)).bay ≡ b)
       (depth : v.depth ≡ u.depth) (lines : v.lines ≡ set u.lines (u.depth - 1) (tried (nth_line u.lines (u.depth - 1)) c)) (same : Same u v) where
     deep : u.depth - 1 < length u.lines
@@ -140,28 +129,28 @@ module _ {P : Type 0} (K : Ops P) (m : Meaning P) where
         ∙ ap₂ (λ (x : ℕ) (y : ℕ). put x y (set_in v.lines (a.depth - 1))) try_bay (ap (λ (l : Told). l.choice) try_line)
         ∙ ap (put b c) (set_kept_in a.lines v.lines (a.depth - 1) try_kept (a.depth - 1) (le_refl _))
 
-    pub try_state : b < 24 → c < get_or a.choices b 0 → total' ≡ total → State m v v.depth rest force used total'
+    pub try_state : b < 24 → c < get_or a.choices b 0 → total' ≡ total → State m v v.depth left total'
     try_state inside legal len =
         let cs = a.choices in
         let choice_is : (line_at v.lines (a.depth - 1)).choice ≡ c = ap (λ (l : Told). l.choice) try_line in
         let new : ((line_at v.lines (a.depth - 1)).bay < 24) × ((line_at v.lines (a.depth - 1)).choice < get_or cs (line_at v.lines (a.depth - 1)).bay 0) = rw (try_bay, choice_is) (inside, legal) in
-        make_state m v cs v.depth rest force used total' (same.choices ∙ f.choices) st.fits st.few
+        make_state m v cs v.depth left total' (same.choices ∙ f.choices) st.fits st.few
         (subst (λ (x : ℕ). ChoicesOk cs v.lines x) (sym try_depth) (choices_up cs v.lines (a.depth - 1) (choices_kept cs a.lines v.lines (a.depth - 1) try_kept st.legal) (λ _. new)))
         st.opened st.small
-        (omega (arith, st.deep, depth, f.depth)) (subst (λ (x : ℕ). used ≤ x) (sym len) st.room)
-        (subst (λ (x : ℕ). Tabled v.lines x force) (sym try_depth) (tabled_up v.lines (a.depth - 1) force (tabled_kept a.lines v.lines (a.depth - 1) force try_kept st.tabled)))
-        (subst (λ (x : ℕ). Stack cs v.lines x used) (sym try_depth) (stack_up cs v.lines (a.depth - 1) used try_newest (stack_kept cs a.lines v.lines (a.depth - 1) used try_kept st.stack)))
+        (omega (arith, st.deep, depth, f.depth)) (subst (λ (x : ℕ). left.used ≤ x) (sym len) st.room)
+        (subst (λ (x : ℕ). Tabled v.lines x left.force.now) (sym try_depth) (tabled_up v.lines (a.depth - 1) left.force.now (tabled_kept a.lines v.lines (a.depth - 1) left.force.now try_kept st.tabled)))
+        (subst (λ (x : ℕ). Stack cs v.lines x left.used) (sym try_depth) (stack_up cs v.lines (a.depth - 1) left.used try_newest (stack_kept cs a.lines v.lines (a.depth - 1) left.used try_kept st.stack)))
 
     -- and what the model makes of it
-    pub try_visited : (pick : Answers) (cells cells' : List P) (n : ℕ) (s : Sofar P) → take used cells' ≡ take used cells → length cells' ≡ length cells → sofar u false ≡ s
-        → visited K m pick v rest force used cells' n (sofar v false)
-        ≡ visit (setup_of K a.choices pick a.k a.limit) n (bays_from rest 0) (terms_from K m a.choices a.lines cells force 0) (length cells - used) (put b c (set_in a.lines (a.depth - 1))) (folds_of K m a.choices a.lines cells (a.depth - 1)) s
+    pub try_visited : (pick : Answers) (cells cells' : List P) (n : ℕ) (s : Sofar P) → take left.used cells' ≡ take left.used cells → length cells' ≡ length cells → sofar u false ≡ s
+        → visited K m pick v left cells' n (sofar v false)
+        ≡ visit (setup_of K a.choices pick a.k a.limit) n (bays_from left.remaining 0) (terms_from K m a.choices a.lines cells left.force.now 0) (length cells - left.used) (put b c (set_in a.lines (a.depth - 1))) (folds_of K m a.choices a.lines cells (a.depth - 1)) s
     try_visited pick cells cells' n s kept len is =
         let e : v.choices ≡ a.choices = same.choices ∙ f.choices in
-        visit_at _ _ n (bays_from rest 0) _ _ _ _ _ _ _ _ _ _
+        visit_at _ _ n (bays_from left.remaining 0) _ _ _ _ _ _ _ _ _ _
         (setup_same K pick a.choices v.choices a.k v.k a.limit v.limit e (same.k ∙ f.k) (same.limit ∙ f.limit))
-        (ap (λ (x : List ℕ). terms_from K m x v.lines cells' force 0) e ∙ terms_kept K m a.choices a.lines v.lines cells cells' (a.depth - 1) used st.stack try_kept kept force st.tabled)
-        (ap (λ (x : ℕ). x - used) len)
+        (ap (λ (x : List ℕ). terms_from K m x v.lines cells' left.force.now 0) e ∙ terms_kept K m a.choices a.lines v.lines cells cells' (a.depth - 1) left.used st.stack try_kept kept left.force.now st.tabled)
+        (ap (λ (x : ℕ). x - left.used) len)
         try_set
-        (ap (λ (x : List ℕ). folds_of K m x v.lines cells' v.depth) e ∙ ap (folds_of K m a.choices v.lines cells') try_depth ∙ folds_out K m a.choices v.lines cells' (a.depth - 1) try_newest ∙ folds_kept K m a.choices a.lines v.lines cells cells' (a.depth - 1) used st.stack try_kept kept (a.depth - 1) (le_refl _))
+        (ap (λ (x : List ℕ). folds_of K m x v.lines cells' v.depth) e ∙ ap (folds_of K m a.choices v.lines cells') try_depth ∙ folds_out K m a.choices v.lines cells' (a.depth - 1) try_newest ∙ folds_kept K m a.choices a.lines v.lines cells cells' (a.depth - 1) left.used st.stack try_kept kept (a.depth - 1) (le_refl _))
         (sofar_same u v false same ∙ is)

@@ -1,7 +1,7 @@
 -- What the code reads of a term.
 use Rattle.std.proofs.Common.{◌≡◌, ℕ, ◌+◌, ◌-◌, ◌^◌, ◌<◌, ◌≤◌, Bool, true, false, cond, ltb, List, length, get_or, take, drop, sym, refl, ap, ◌∙◌, arith, le-ltb, lt-ltb}
 use mathlib.Core.Bool.{false≢true}
-use Rattle.std.proofs.lemmas.List.{get_or_default, get_or-take, get_or-drop}
+use Rattle.std.proofs.lemmas.List.{get_or_default, get_or_past, get_or-take, get_or-drop}
 use Rattle.model.proofs.Costs.{begins_from, rule_at}
 use Rattle.model.specs.Searched.{within}
 use Rattle.model.proofs.Bits.{bit_one_same}
@@ -10,10 +10,14 @@ use Rattle.model.specs.Prices.{Ops}
 use Rattle.model.specs.Sets.{has}
 use Rattle.search.proofs.Members.{members_sound}
 use Rattle.model.specs.Terms.{Plan}
-use Rattle.search.specs.Force.{scope_of, offset_of, size_of, line_at, scope_mask, block, raw, term, Fits}
+use Rattle.search.specs.Force.{Told, told, no_line, scope_of, offset_of, size_of, line_at, scope_mask, block, raw, term, Fits}
 use Rattle.search.specs.Places.{place, place_stable, bays_from, byte_of, PlanOk}
 use Rattle.search.specs.declared.state.Line.{Line}
 use Rattle.search.specs.declared.state.Passed.{Passed}
+
+-- past the lines no line tells of a table
+past_lines : (lines : List Line) (d : ℕ) → length lines ≤ d → line_at lines d ≡ told no_line
+past_lines lines d h = ap told (get_or_past lines d no_line h)
 
 pub block_read : {P : Type 0} (s o a : ℕ) (xs : List P) (d : P) → a < s → get_or (take s (drop o xs)) a d ≡ get_or xs (o + a) d
 block_read s o a xs d h = get_or-take s (drop o xs) a d h ∙ get_or-drop o xs a d
@@ -53,6 +57,9 @@ module _ {P : Type 0} (K : Ops P) (m : Meaning P) (laws : BookLaws K m) (cs : Li
         go i true e = refl
         go i false e = absurd (false≢true e)
 
+    pub value_past : 112 ≤ j → length lines ≡ 24 → K.forbidden ≡ (term K m cs lines cells j).value (byte_of plan)
+    value_past h l = sym (ap (λ (t : Told). get_or (block cells t) (place (byte_of cs) 0 (bays_from t.scope 0) (byte_of plan)) K.forbidden) (past_lines lines (j - 88) (omega arith))) ∙ value_table (omega arith)
+
 module _ {P : Type 0} (m : Meaning P) (lines : List Line) (j : ℕ) where
   pub scope_own : j < 24 → scope_mask m lines j ≡ 2 ^ j
   unfolding scope_mask
@@ -65,3 +72,6 @@ module _ {P : Type 0} (m : Meaning P) (lines : List Line) (j : ℕ) where
   pub scope_table : 88 ≤ j → scope_mask m lines j ≡ (line_at lines (j - 88)).scope
   unfolding scope_mask
   scope_table h = let lo : ltb j 24 ≡ false = le-ltb j 24 (omega arith) in rw (lo, le-ltb j 88 h) refl
+
+  pub scope_past : 112 ≤ j → length lines ≡ 24 → scope_mask m lines j ≡ 0
+  scope_past h l = scope_table (omega arith) ∙ ap (λ (x : Told). x.scope) (past_lines lines (j - 88) (omega arith))

@@ -1,6 +1,7 @@
 -- The choices that the lines set, as lines come and change.
-use Rattle.std.proofs.Common.{◌≡◌, ℕ, zero, suc, ◌+◌, ◌<◌, ◌≤◌, Bool, true, false, cond, eqb, List, length, get_or, replicate, set, take, sym, refl, ap, ◌∙◌, subst, ap₂, le_refl, arith, eqb-true, length-set}
-use Rattle.std.proofs.lemmas.List.{get_or_default, get_or-take, length-take}
+use Rattle.std.proofs.Common.{◌≡◌, ℕ, zero, suc, ◌+◌, ◌<◌, ◌≤◌, Bool, true, false, cond, eqb, List, [], ◌∷◌, ◌++◌, length, get_or, replicate, set, take, sym, refl, ap, ◌∙◌, subst, ap₂, le_refl, arith, eqb-true, length-set}
+use Rattle.std.proofs.lemmas.List.{get_or_default, get_or_push, get_or-take, length-take, length_push, take-take}
+use Rattle.std.proofs.Math.Seq.{take-append_seam}
 use mathlib.Core.Path.{fun_ext}
 use native.Mathlib.Decide.{dec_lt}
 use Rattle.model.specs.Terms.{Plan, put}
@@ -35,6 +36,16 @@ sets_none lines = (refl, fun_ext (zeros 24) ∙ sym (set_none lines))
 -- a line of the first n
 pub taken : (lines : List Line) (n d : ℕ) (z : Line) → d < length (take n lines) → get_or (take n lines) d z ≡ nth_line lines d
 taken lines n d z h = get_or_default (take n lines) d z no_line h ∙ get_or-take n lines d no_line (omega (arith, length-take n lines))
+
+-- the last of the first items, and those before it
+pub newest_taken : {X : Type 0} (z : X) (xs rest new : List X) (x : X) → rest ≡ take (length rest) xs → rest ≡ new ++ x ∷ [] → (length rest ≡ length new + 1) × (x ≡ get_or xs (length new) z) × (new ≡ take (length new) xs)
+newest_taken z xs rest new x t p =
+    let n : length rest ≡ length new + 1 = ap length p ∙ length_push new x in
+    let all : take (length new + 1) xs ≡ new ++ x ∷ [] = ap (λ (k : ℕ). take k xs) (sym n) ∙ sym t ∙ p in (
+      n,
+      sym (get_or_push new x z (length new) refl) ∙ sym (ap (λ ys. get_or ys (length new) z) all) ∙ get_or-take (length new + 1) xs (length new) z (omega arith),
+      sym (take-append_seam new (x ∷ [])) ∙ ap (take (length new)) (sym all) ∙ take-take (length new) (length new + 1) xs (omega arith),
+    )
 
 -- the next line sets its choice, or is folded
 module _ (lines : List Line) (d : ℕ) (old : List ℕ) (long : length old ≡ 24) (is : byte_of old ≡ set_in lines d) where

@@ -18,6 +18,7 @@ use Rattle.search.proofs.Sizes.{size_step}
 use Rattle.search.specs.Force.{Told, told, no_line, line_at, Fits}
 use Rattle.search.specs.Places.{bays_from, byte_of, Open, Few}
 use Rattle.search.specs.Visit.{ChoicesOk, Tabled, Stack, State, Kept}
+use Rattle.search.specs.declared.state.Left.{Left}
 use Rattle.search.specs.declared.state.Line.{Line}
 use Rattle.search.specs.declared.state.Search.{Search}
 
@@ -77,18 +78,18 @@ stack_up cs lines d used u s = record {
   bays = λ e h f. newest_or e d h (λ z. clash f (ap (λ (x : ℕ). (line_at lines x).folded) z ∙ u)) (λ lt. s.bays e lt f);
 }
 
-pub make_state : {P : Type 0} (m : Meaning P) (p : Search P) (cs : List ℕ) (d rest : ℕ) (force : List Bool) (used total : ℕ) → p.choices ≡ cs → Fits m cs → Few cs → ChoicesOk cs p.lines d → Open cs rest → rest < 2 ^ 24
-    → p.depth + length (bays_from rest 0) ≤ 24 → used ≤ total → Tabled p.lines d force → Stack cs p.lines d used → State m p d rest force used total
-make_state m p cs d rest force used total e fits few legal opened small deep room tabled stack = record {
+pub make_state : {P : Type 0} (m : Meaning P) (p : Search P) (cs : List ℕ) (d : ℕ) (left : Left) (total : ℕ) → p.choices ≡ cs → Fits m cs → Few cs → ChoicesOk cs p.lines d → Open cs left.remaining → left.remaining < 2 ^ 24
+    → p.depth + length (bays_from left.remaining 0) ≤ 24 → left.used ≤ total → Tabled p.lines d left.force.now → Stack cs p.lines d left.used → State m p d left total
+make_state m p cs d left total e fits few legal opened small deep room tabled stack = record {
   fits = subst (Fits m) (sym e) fits;
   few = subst Few (sym e) few;
   legal = subst (λ (c : List ℕ). ChoicesOk c p.lines d) (sym e) legal;
-  opened = subst (λ (c : List ℕ). Open c rest) (sym e) opened;
+  opened = subst (λ (c : List ℕ). Open c left.remaining) (sym e) opened;
   small = small;
   deep = deep;
   room = room;
   tabled = tabled;
-  stack = subst (λ (c : List ℕ). Stack c p.lines d used) (sym e) stack;
+  stack = subst (λ (c : List ℕ). Stack c p.lines d left.used) (sym e) stack;
 }
 
 pub no_bays : bays_from 0 0 ≡ []

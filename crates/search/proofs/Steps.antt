@@ -1,8 +1,9 @@
 -- How the defined sums go on, step by step.
-use Rattle.std.proofs.Common.{◌≡◌, ℕ, zero, suc, ◌+◌, ◌-◌, ◌<◌, ◌≤◌, Bool, true, false, cond, ◌&&◌, ◌||◌, List, [], ◌∷◌, map, length, get_or, set, sym, refl, ap, ◌∙◌, le_refl, arith, add-one}
+use Rattle.std.proofs.Common.{◌≡◌, ℕ, zero, suc, ◌+◌, ◌<◌, ◌≤◌, Bool, true, false, cond, ◌&&◌, ◌||◌, List, [], ◌∷◌, map, length, get_or, set, sym, refl, ap, ◌∙◌, le_refl, arith, add-one}
 use mathlib.Core.Path.{fun_ext}
+use native.Mathlib.Decide.{dec_lt}
 use borrow.Author.Tests.{eqb-false}
-use Rattle.std.proofs.lemmas.List.{get_or-set_same, get_or-set_other}
+use Rattle.std.proofs.lemmas.List.{get_or_past, get_or-set_same, get_or-set_other}
 use Rattle.model.proofs.Ordered.{put_is}
 use Rattle.model.specs.Books.{Meaning}
 use Rattle.model.specs.Prices.{Ops}
@@ -18,6 +19,10 @@ pub bytes_put : (plan : List ℕ) (b c : ℕ) → b < length plan → byte_of (s
 bytes_put plan b c h = fun_ext (λ i. sym (put_is b c (byte_of plan) i (get_or (set plan b c) i 0)
     (λ e. sym (ap (λ (k : ℕ). get_or (set plan b c) k 0) e ∙ get_or-set_same plan b c 0 h))
     (λ e. sym (get_or-set_other plan b i c 0 (eqb-false i b e)))))
+
+-- a bay with choices is one of the bays
+pub choice_inside : (cs : List ℕ) (b c : ℕ) → c < get_or cs b 0 → b < length cs
+choice_inside cs b c h = elim (dec_lt b (length cs)) [ yes lt ↦ lt | no ge ↦ (let z = get_or_past cs b 0 (omega arith) in absurd (omega (arith, z))) ]
 
 pub least_more : {P : Type 0} (K : Ops P) (n : ℕ) (f : ℕ → P) → 0 < n → least K (n + 1) f ≡ cond (K.at_most (least K n f) (f n)) (least K n f) (f n)
 least_more K zero f h = absurd (omega arith)
@@ -76,50 +81,34 @@ pub shares_end : {P : Type 0} (m : Meaning P) (lines : List Line) (force : List 
 shares_end m lines force b i = ap (any (λ k. has (scope_mask m lines k) b && has (scope_mask m lines k) i)) (members_end (flag force) 112 112 (le_refl 112))
 
 -- a sum over the terms in force goes down by one number
-module _ {P : Type 0} (K : Ops P) (m : Meaning P) (cs : List ℕ) (lines : List Line) (cells : List P) (force : List Bool) (n : ℕ) (lo : 0 < n) (hi : n ≤ 112) where
-  back_one : n ≡ n - 1 + 1
-  back_one = omega arith
-
+module _ {P : Type 0} (K : Ops P) (m : Meaning P) (cs : List ℕ) (lines : List Line) (cells : List P) (force : List Bool) (n : ℕ) (hi : n < 112) where
   module _ (left : ℕ) (π : Plan) where
-    pub floor_off : flag force (n - 1) ≡ false → floor_from K m cs lines cells force left π n ≡ floor_from K m cs lines cells force left π (n - 1)
-    floor_off e =
-        ap (floor_from K m cs lines cells force left π) back_one
-        ∙ sym (ap (λ (ts : List (Term P)). floor K (byte_of cs) ts (bays_from left 0) π) (terms_out K m cs lines cells force (n - 1) (omega arith) e))
+    pub floor_off : flag force n ≡ false → floor_from K m cs lines cells force left π (n + 1) ≡ floor_from K m cs lines cells force left π n
+    floor_off e = sym (ap (λ (ts : List (Term P)). floor K (byte_of cs) ts (bays_from left 0) π) (terms_out K m cs lines cells force n hi e))
 
-    pub floor_on : flag force (n - 1) ≡ true → K.combine (lowest_from K m cs lines cells (n - 1) left 0 π) (floor_from K m cs lines cells force left π n) ≡ floor_from K m cs lines cells force left π (n - 1)
-    floor_on e =
-        ap (λ (x : ℕ). K.combine (lowest_from K m cs lines cells (n - 1) left 0 π) (floor_from K m cs lines cells force left π x)) back_one
-        ∙ sym (ap (λ (ts : List (Term P)). floor K (byte_of cs) ts (bays_from left 0) π) (terms_in K m cs lines cells force (n - 1) (omega arith) e))
+    pub floor_on : flag force n ≡ true → K.combine (lowest_from K m cs lines cells n left 0 π) (floor_from K m cs lines cells force left π (n + 1)) ≡ floor_from K m cs lines cells force left π n
+    floor_on e = sym (ap (λ (ts : List (Term P)). floor K (byte_of cs) ts (bays_from left 0) π) (terms_in K m cs lines cells force n hi e))
 
   module _ (b : ℕ) (π : Plan) where
-    pub charge_off : flag force (n - 1) ≡ false → charge_from K m cs lines cells force b π n ≡ charge_from K m cs lines cells force b π (n - 1)
-    charge_off e =
-        ap (charge_from K m cs lines cells force b π) back_one ∙ sym (ap (λ (ts : List (Term P)). cost K (touching b ts) π) (terms_out K m cs lines cells force (n - 1) (omega arith) e))
+    pub charge_off : flag force n ≡ false → charge_from K m cs lines cells force b π (n + 1) ≡ charge_from K m cs lines cells force b π n
+    charge_off e = sym (ap (λ (ts : List (Term P)). cost K (touching b ts) π) (terms_out K m cs lines cells force n hi e))
 
-    pub charge_past : flag force (n - 1) ≡ true → has (scope_mask m lines (n - 1)) b ≡ false → charge_from K m cs lines cells force b π n ≡ charge_from K m cs lines cells force b π (n - 1)
-    charge_past e t =
-        ap (charge_from K m cs lines cells force b π) back_one
-        ∙ sym (ap (λ (ts : List (Term P)). cost K (touching b ts) π) (terms_in K m cs lines cells force (n - 1) (omega arith) e) ∙ rw t refl)
+    pub charge_past : flag force n ≡ true → has (scope_mask m lines n) b ≡ false → charge_from K m cs lines cells force b π (n + 1) ≡ charge_from K m cs lines cells force b π n
+    charge_past e t = sym (ap (λ (ts : List (Term P)). cost K (touching b ts) π) (terms_in K m cs lines cells force n hi e) ∙ rw t refl)
 
-    pub charge_on : flag force (n - 1) ≡ true → has (scope_mask m lines (n - 1)) b ≡ true
-        → K.combine ((term K m cs lines cells (n - 1)).value π) (charge_from K m cs lines cells force b π n) ≡ charge_from K m cs lines cells force b π (n - 1)
-    charge_on e t =
-        ap (λ (x : ℕ). K.combine ((term K m cs lines cells (n - 1)).value π) (charge_from K m cs lines cells force b π x)) back_one
-        ∙ sym (ap (λ (ts : List (Term P)). cost K (touching b ts) π) (terms_in K m cs lines cells force (n - 1) (omega arith) e) ∙ rw t refl)
+    pub charge_on : flag force n ≡ true → has (scope_mask m lines n) b ≡ true → K.combine ((term K m cs lines cells n).value π) (charge_from K m cs lines cells force b π (n + 1)) ≡ charge_from K m cs lines cells force b π n
+    charge_on e t = sym (ap (λ (ts : List (Term P)). cost K (touching b ts) π) (terms_in K m cs lines cells force n hi e) ∙ rw t refl)
 
 -- so do the bays that share a term with b
-module _ {P : Type 0} (m : Meaning P) (lines : List Line) (force : List Bool) (b i n : ℕ) (lo : 0 < n) (hi : n ≤ 112) where
+module _ {P : Type 0} (m : Meaning P) (lines : List Line) (force : List Bool) (b i n : ℕ) (hi : n < 112) where
   abbrev joins : ℕ → Bool
   joins k = has (scope_mask m lines k) b && has (scope_mask m lines k) i
 
-  later : shares m lines force b n i ≡ shares m lines force b (n - 1 + 1) i
-  later = let z : n ≡ n - 1 + 1 = omega arith in ap (λ (x : ℕ). shares m lines force b x i) z
+  pub shares_off : flag force n ≡ false → shares m lines force b (n + 1) i ≡ shares m lines force b n i
+  shares_off e = sym (ap (any joins) (members_out (flag force) n 112 hi e))
 
-  pub shares_off : flag force (n - 1) ≡ false → shares m lines force b n i ≡ shares m lines force b (n - 1) i
-  shares_off e = later ∙ sym (ap (any joins) (members_out (flag force) (n - 1) 112 (omega arith) e))
+  pub shares_past : flag force n ≡ true → has (scope_mask m lines n) b ≡ false → shares m lines force b (n + 1) i ≡ shares m lines force b n i
+  shares_past e t = sym (ap (any joins) (members_in (flag force) n 112 hi e) ∙ rw t refl)
 
-  pub shares_past : flag force (n - 1) ≡ true → has (scope_mask m lines (n - 1)) b ≡ false → shares m lines force b n i ≡ shares m lines force b (n - 1) i
-  shares_past e t = later ∙ sym (ap (any joins) (members_in (flag force) (n - 1) 112 (omega arith) e) ∙ rw t refl)
-
-  pub shares_on : flag force (n - 1) ≡ true → has (scope_mask m lines (n - 1)) b ≡ true → (has (scope_mask m lines (n - 1)) i || shares m lines force b n i) ≡ shares m lines force b (n - 1) i
-  shares_on e t = ap (λ (x : Bool). has (scope_mask m lines (n - 1)) i || x) later ∙ sym (ap (any joins) (members_in (flag force) (n - 1) 112 (omega arith) e) ∙ rw t refl)
+  pub shares_on : flag force n ≡ true → has (scope_mask m lines n) b ≡ true → (has (scope_mask m lines n) i || shares m lines force b (n + 1) i) ≡ shares m lines force b n i
+  shares_on e t = sym (ap (any joins) (members_in (flag force) n 112 hi e) ∙ rw t refl)

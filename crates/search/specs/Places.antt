@@ -1,6 +1,7 @@
 -- The bays of a set in rising order, and the places of a table over them.
 use Rattle.std.specs.Prelude.{◌≡◌, ℕ, zero, suc, ◌+◌, ◌-◌, ◌*◌, ◌/◌, ◌%◌, ◌<◌, ◌≤◌, Bool, true, cond, List, [], ◌∷◌, ◌==◌, slice_index, slice_set, refl}
 use Rattle.std.proofs.Common.{ap, ◌∙◌}
+use Rattle.std.specs.Coded.{le_prop}
 use Rattle.std.specs.List.{range_with_len}
 use Rattle.std.proofs.lemmas.Bool.{or_right}
 use Rattle.model.specs.Lists.{keep, member, product}
@@ -44,6 +45,10 @@ Open cs mask = (i : ℕ) → has mask i ≡ true → 0 < slice_index cs i
 -- each bay that has choices has one of them
 abbrev pub PlanOk : List ℕ → List ℕ → Type 0
 PlanOk cs plan = (i : ℕ) → 0 < slice_index cs i → slice_index plan i < slice_index cs i
+
+-- that a plan is within the choices has one proof at most
+pub PlanOk_prop : (cs plan : List ℕ) → IsProp (PlanOk cs plan)
+PlanOk_prop cs plan p q = λ i b o. le_prop (p b o) (q b o) i
 
 abbrev pub Few : List ℕ → Type 0
 Few cs = (i : ℕ) → slice_index cs i ≤ 8

@@ -11,6 +11,7 @@ use Rattle.model.specs.Terms.{Plan, Term, Fold, floor, put, folded}
 use Rattle.model.specs.Search.{Setup, Sofar, visit, each, share}
 use Rattle.search.specs.Places.{members, bays_from, byte_of, Open, Few}
 use Rattle.search.specs.Force.{line_at, flag, scope_mask, terms_from, shares, Fits}
+use Rattle.search.specs.declared.state.Left.{Left}
 use Rattle.search.specs.declared.state.Line.{Line}
 use Rattle.search.specs.declared.state.Passed.TheVariants.{Branched}
 use Rattle.search.specs.declared.state.Search.{Search}
@@ -63,16 +64,16 @@ pub record Stack (cs : List ℕ) (lines : List Line) (d used : ℕ) : Type 0 whe
   pub bays : BaysOk cs lines d
 
 -- what holds between steps, of the first d lines
-pub record State {P : Type 0} (m : Meaning P) (s : Search P) (d remaining : ℕ) (force : List Bool) (used total : ℕ) : Type 0 where
+pub record State {P : Type 0} (m : Meaning P) (s : Search P) (d : ℕ) (left : Left) (total : ℕ) : Type 0 where
   pub fits : Fits m s.choices
   pub few : Few s.choices
   pub legal : ChoicesOk s.choices s.lines d
-  pub opened : Open s.choices remaining
-  pub small : remaining < 2 ^ 24
-  pub deep : s.depth + length (bays_from remaining 0) ≤ 24
-  pub room : used ≤ total
-  pub tabled : Tabled s.lines d force
-  pub stack : Stack s.choices s.lines d used
+  pub opened : Open s.choices left.remaining
+  pub small : left.remaining < 2 ^ 24
+  pub deep : s.depth + length (bays_from left.remaining 0) ≤ 24
+  pub room : left.used ≤ total
+  pub tabled : Tabled s.lines d left.force.now
+  pub stack : Stack s.choices s.lines d left.used
 
 -- the first d lines stay
 abbrev pub Kept : List Line → List Line → ℕ → Type 0
@@ -96,20 +97,20 @@ pub record Same {P : Type 0} (a b : Search P) : Type 0 where
   pub k : b.k ≡ a.k
 
 -- the visit that the model makes of a state
-abbrev pub visited : {P : Type 0} → Ops P → Meaning P → Answers → Search P → ℕ → List Bool → ℕ → List P → ℕ → Sofar P → Sofar P
-visited o m pick s remaining force used cells n =
-    visit (setup_of o s.choices pick s.k s.limit) n (bays_from remaining 0) (terms_from o m s.choices s.lines cells force 0) (length cells - used) (set_in s.lines s.depth) (folds_of o m s.choices s.lines cells s.depth)
+abbrev pub visited : {P : Type 0} → Ops P → Meaning P → Answers → Search P → Left → List P → ℕ → Sofar P → Sofar P
+visited o m pick s left cells n =
+    visit (setup_of o s.choices pick s.k s.limit) n (bays_from left.remaining 0) (terms_from o m s.choices s.lines cells left.force.now 0) (length cells - left.used) (set_in s.lines s.depth) (folds_of o m s.choices s.lines cells s.depth)
 
 -- a fold of the bay b
-abbrev pub folding : {P : Type 0} → Ops P → Meaning P → Answers → Search P → ℕ → List Bool → ℕ → List P → ℕ → ℕ → ℕ → Sofar P → Sofar P
-folding o m pick s rest force used cells b size n =
-    let ts = terms_from o m s.choices s.lines cells force 0 in
-    visit (setup_of o s.choices pick s.k s.limit) n (bays_from rest 0) (folded o (byte_of s.choices) b ts) (length cells - used - size) (set_in s.lines s.depth) (record { bay = b; terms = ts } ∷ folds_of o m s.choices s.lines cells s.depth)
+abbrev pub folding : {P : Type 0} → Ops P → Meaning P → Answers → Search P → ℕ → Left → List P → ℕ → ℕ → ℕ → Sofar P → Sofar P
+folding o m pick s rest left cells b size n =
+    let ts = terms_from o m s.choices s.lines cells left.force.now 0 in
+    visit (setup_of o s.choices pick s.k s.limit) n (bays_from rest 0) (folded o (byte_of s.choices) b ts) (length cells - left.used - size) (set_in s.lines s.depth) (record { bay = b; terms = ts } ∷ folds_of o m s.choices s.lines cells s.depth)
 
 -- the first t choices of the bay b, with d lines before it
-abbrev pub branching : {P : Type 0} → Ops P → Meaning P → Answers → Search P → ℕ → ℕ → List Bool → ℕ → List P → ℕ → ℕ → ℕ → Sofar P → Sofar P
-branching o m pick s d rest force used cells b t n =
-    each t (λ c. visit (setup_of o s.choices pick s.k s.limit) n (bays_from rest 0) (terms_from o m s.choices s.lines cells force 0) (length cells - used) (put b c (set_in s.lines d)) (folds_of o m s.choices s.lines cells d))
+abbrev pub branching : {P : Type 0} → Ops P → Meaning P → Answers → Search P → ℕ → Left → List P → ℕ → ℕ → ℕ → Sofar P → Sofar P
+branching o m pick s d left cells b t n =
+    each t (λ c. visit (setup_of o s.choices pick s.k s.limit) n (bays_from left.remaining 0) (terms_from o m s.choices s.lines cells left.force.now 0) (length cells - left.used) (put b c (set_in s.lines d)) (folds_of o m s.choices s.lines cells d))
 
 -- the bays that a set of neighbours has
 abbrev pub is_near : {P : Type 0} → Meaning P → List Line → List Bool → ℕ → ℕ → ℕ → Bool
@@ -146,6 +147,6 @@ abbrev pub onward : {P : Type 0} → Setup P → ℕ → List ℕ → List (Term
 onward S n [] ts unused σ folds s = s
 onward S n (r ∷ rs) ts unused σ folds s = let d = decide S.passing (share ts) unused r rs in passed S n (r ∷ rs) ts unused σ folds d d.fold s
 
-abbrev pub passing : {P : Type 0} → Ops P → Meaning P → Answers → Search P → ℕ → List Bool → ℕ → List P → ℕ → Sofar P → Sofar P
-passing o m pick s remaining force used cells n =
-    onward (setup_of o s.choices pick s.k s.limit) n (bays_from remaining 0) (terms_from o m s.choices s.lines cells force 0) (length cells - used) (set_in s.lines s.depth) (folds_of o m s.choices s.lines cells s.depth)
+abbrev pub passing : {P : Type 0} → Ops P → Meaning P → Answers → Search P → Left → List P → ℕ → Sofar P → Sofar P
+passing o m pick s left cells n =
+    onward (setup_of o s.choices pick s.k s.limit) n (bays_from left.remaining 0) (terms_from o m s.choices s.lines cells left.force.now 0) (length cells - left.used) (set_in s.lines s.depth) (folds_of o m s.choices s.lines cells s.depth)

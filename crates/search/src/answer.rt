@@ -8,8 +8,9 @@ use prices::price::Price;
 use refusals::Refusal;
 
 // A cheapest plan with its price, or none below the ceiling, or the limit reached first, each with the visits made; or a
-// refusal. It stays one enum, and no Result of an Option, since callers ask for each of the four by name.
-#[derive(Clone, Copy, Drop)]
+// refusal. It stays one enum, and no Result of an Option: callers ask for each of the four by name, and a search that
+// stopped is no error, but has its visits to tell as the others have.
+#[derive(Clone, Copy, Debug, PartialEq, Eq, Drop)]
 pub enum Planned<P> {
     Found { price: P, visits: u32 },
     NoPlan { visits: u32 },

@@ -1,31 +1,33 @@
 // The plan read back from the lines.
 ghost use Rattle.std.specs.Prelude.{◌≡◌, ◌-◌, ◌<◌, ◌≤◌};
 ghost use Rattle.model.specs.Terms.{read};
-ghost use Rattle.search.specs.Places.{byte_of, PlanOk};
+ghost use Rattle.search.specs.Places.{byte_of};
 ghost use Rattle.search.specs.Visit.{folds_of, BaysOk};
 
+use crate::pricing::Pricing;
 use crate::state::Passed;
-use crate::terms::{Terms, with_choice};
 use books::book::Book;
 use prices::price::Price;
 
-impl<'a, B: Book> Terms<'a, B> {
+impl<'a, B: Book> Pricing<'a, B> {
     // The plan read in reverse order of passing: each folded bay of the first `depth` lines takes the first choice at
     // which its terms combine least.
-    pub(crate) fn read_back(&self, depth: usize, plan: [u8; 24]) -> [u8; 24]
+    pub(crate) fn read_back(&self, depth: usize) -> [u8; 24]
         requires deep { depth ≤ 24 }
-        requires bays { BaysOk self.now.choices.now self.now.lines.now depth }
-        requires legal { PlanOk self.now.choices.now plan }
-        ensures { byte_of result ≡ read B.Cost.ops (byte_of self.now.choices.now) (folds_of B.Cost.ops (B.meaning self.now.book.now) self.now.choices.now self.now.lines.now self.now.cells.now depth) (byte_of plan) }
+        requires bays { BaysOk self.now.terms.now.choices.now self.now.terms.now.lines.now depth }
+        ensures { byte_of result ≡ read B.Cost.ops (byte_of self.now.terms.now.choices.now) (folds_of B.Cost.ops (B.meaning self.now.terms.now.book.now) self.now.terms.now.choices.now self.now.terms.now.lines.now self.now.terms.now.cells.now depth) (byte_of self.now.plan) }
     {
-        let mut next = plan;
-        for d in (0..depth).rev() {
-            let line = &self.lines[d];
+        let lines = self.terms.lines;
+        let mut plan = self.plan;
+        for line in lines[..depth].iter().rev() {
             if let Passed::Folded { force, .. } = &line.passed {
-                let choice = self.settle(force, line.bay, &next).1;
-                next = with_choice(&next, line.bay, choice);
+                let pricing = Pricing {
+                    terms: self.terms,
+                    plan,
+                };
+                plan[usize::from(line.bay)] = pricing.settle(force, line.bay).choice;
             }
         }
-        next
+        plan
     }
 }

@@ -5,7 +5,6 @@ ghost use Rattle.search.specs.Force.{Fits};
 ghost use Rattle.search.specs.Decisions.{Decides};
 
 use crate::state::{Given, Left, Search};
-use crate::terms::Terms;
 use bays::neighbours_of;
 use books::book::Book;
 use course::step::step;
@@ -37,15 +36,11 @@ pub(crate) fn decide_step<P: Price, B: Book<Cost = P>, K: Picker>(
     requires some { 0 < left.now.remaining }
     requires small { left.now.remaining < 2 ^ 24 }
     requires room { left.now.used ≤ length scratch.now }
-    ensures { Decides P.ops (B.meaning given.now.book.now) (answers_of (K.answer given.now.picker.now)) search.now left.now.remaining left.now.force.now left.now.used scratch.now result }
+    ensures { Decides P.ops (B.meaning given.now.book.now) (answers_of (K.answer given.now.picker.now)) search.now left.now scratch.now result }
 {
-    let terms = Terms {
-        book: given.book,
-        choices: &search.choices,
-        lines: &search.lines,
-        cells: scratch,
-    };
-    let nears = terms.nears(left.force, left.remaining);
+    let nears = search
+        .terms(given.book, scratch)
+        .nears(left.force, left.remaining);
     let next = step(
         given.picker,
         &search.choices,

@@ -10,6 +10,7 @@ mod moves;
 mod near;
 mod places;
 pub mod plan;
+mod pricing;
 mod settle;
 mod start;
 mod state;

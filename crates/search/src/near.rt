@@ -12,13 +12,12 @@ use std::array;
 impl<'a, B: Book> Terms<'a, B> {
     // The bays that share a term in force with a bay.
     fn touched(&self, force: &[bool; 112], bay: u8) -> u32
-        requires { bay < 24 }
         ensures { (i : ℕ) → has_of result i ≡ shares (B.meaning self.now.book.now) self.now.lines.now force.now bay 0 i }
     {
         let mut bays = 0;
-        for number in (0..112).rev() {
+        for (number, on) in force.iter().enumerate().rev() {
             let scope = self.scope(number);
-            if force[number] && has(scope, bay) {
+            if *on && has(scope, bay) {
                 bays |= scope;
             }
         }
@@ -27,7 +26,6 @@ impl<'a, B: Book> Terms<'a, B> {
 
     // The neighbours of a bay: the other remaining bays that share a term in force with it.
     fn near(&self, force: &[bool; 112], remaining: u32, bay: u8) -> u32
-        requires { bay < 24 }
         ensures { Nears (B.meaning self.now.book.now) self.now.lines.now force.now remaining bay result }
     {
         without(self.touched(force, bay) & remaining, bay)
@@ -37,13 +35,13 @@ impl<'a, B: Book> Terms<'a, B> {
     pub(crate) fn nears(&self, force: &[bool; 112], remaining: u32) -> [u32; 24]
         ensures { (bay : ℕ) → bay < 24 → Nears (B.meaning self.now.book.now) self.now.lines.now force.now remaining bay (slice_index result bay) }
     {
+        // `as`, since an index is a usize, which no `From` narrows; below 24 nothing is lost.
         array::from_fn(|bay| self.near(force, remaining, bay as u8))
     }
 
     // The terms in force once a bay is folded: those that do not touch it, and its table.
     pub(crate) fn folded_force(&self, force: &[bool; 112], bay: u8, depth: usize) -> [bool; 112]
-        requires bay { bay < 24 }
-        requires deep { depth < 24 }
+        requires { depth < 24 }
         ensures { (j : ℕ) → flag result j ≡ after (B.meaning self.now.book.now) self.now.lines.now force.now bay depth j }
     {
         let mut after = array::from_fn(|number| force[number] && !has(self.scope(number), bay));

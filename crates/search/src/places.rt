@@ -19,8 +19,8 @@ pub(crate) fn place(choices: &[u8; 24], set: u32, bay: u8, so_far: usize, plan: 
         return so_far;
     }
     if has(set, bay) {
-        let at = bay as usize;
-        let next = so_far * choices[at] as usize + plan[at] as usize;
+        let at = usize::from(bay);
+        let next = so_far * usize::from(choices[at]) + usize::from(plan[at]);
         place(choices, set, bay + 1, next, plan)
     } else {
         place(choices, set, bay + 1, so_far, plan)
@@ -35,10 +35,12 @@ pub(crate) fn decoded(choices: &[u8; 24], set: u32, at: usize, plan: [u8; 24]) -
 {
     let mut picks = plan;
     let mut left = at;
+    // The bays themselves, from the last one: a bay is a number that `has` asks for, and not only an index.
     for bay in (0..24).rev() {
         if has(set, bay) {
-            let tries = choices[bay as usize] as usize;
-            picks[bay as usize] = (left % tries) as u8;
+            let tries = usize::from(choices[usize::from(bay)]);
+            // Below the bay's choices, so `as` loses nothing.
+            picks[usize::from(bay)] = (left % tries) as u8;
             left /= tries;
         }
     }

@@ -104,7 +104,7 @@ fn searched<P: Price, B: Book<Cost = P>, K: Picker>(
 // Searches a book for its cheapest plan below the offered ceiling, with at most so many visits. A plan that is found is
 // written, one byte for each bay, and later bytes stay; in every other case all bytes stay. Refused are k outside -1 to 4,
 // a limit of 0, fewer bytes than bays, and then a ceiling that is no price. What the scratch cells hold afterwards is
-// left free.
+// left free. Its parameters stand side by side, as the call was asked for.
 pub fn plan<P: Price, B: Book<Cost = P>, K: Picker>(
     book: &B,
     picker: &K,

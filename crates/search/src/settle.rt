@@ -2,46 +2,52 @@
 ghost use Rattle.std.specs.Prelude.{◌≡◌, ◌<◌, slice_index};
 ghost use Rattle.model.specs.Terms.{least, least_at};
 ghost use Rattle.search.specs.Force.{charge_from, trial};
-ghost use Rattle.search.specs.Places.{byte_of, PlanOk};
+ghost use Rattle.search.specs.Places.{byte_of};
 
-use crate::terms::{Terms, with_choice};
+use crate::pricing::Pricing;
 use bays::has;
 use books::book::Book;
 use prices::price::Price;
 
-impl<'a, B: Book> Terms<'a, B> {
-    // What the terms in force that touch a bay cost under a plan.
-    fn charge(&self, force: &[bool; 112], bay: u8, plan: &[u8; 24]) -> B::Cost
-        requires bay { bay < 24 }
-        requires legal { PlanOk self.now.choices.now plan.now }
-        ensures { result ≡ charge_from B.Cost.ops (B.meaning self.now.book.now) self.now.choices.now self.now.lines.now self.now.cells.now force.now bay (byte_of plan.now) 0 }
+// The least price over the choices of a bay, and the first choice that has it.
+#[derive(Clone, Copy)]
+pub(crate) struct Settled<P> {
+    pub(crate) price: P,
+    pub(crate) choice: u8,
+}
+
+impl<'a, B: Book> Pricing<'a, B> {
+    // What the terms in force that touch a bay cost.
+    fn charge(&self, force: &[bool; 112], bay: u8) -> B::Cost
+        ensures { result ≡ charge_from B.Cost.ops (B.meaning self.now.terms.now.book.now) self.now.terms.now.choices.now self.now.terms.now.lines.now self.now.terms.now.cells.now force.now bay (byte_of self.now.plan) 0 }
     {
         let mut total = B::Cost::free();
-        for number in (0..112).rev() {
-            if force[number] && has(self.scope(number), bay) {
-                total = self.value(number, plan).combine(total);
+        for (number, on) in force.iter().enumerate().rev() {
+            if *on && has(self.terms.scope(number), bay) {
+                total = self.value(number).combine(total);
             }
         }
         total
     }
 
-    // The least over the choices of a bay of what its terms cost, and the first choice that has it.
-    pub(crate) fn settle(&self, force: &[bool; 112], bay: u8, plan: &[u8; 24]) -> (B::Cost, u8)
-        requires bay { bay < 24 }
-        requires some { 0 < slice_index self.now.choices.now bay }
-        requires legal { PlanOk self.now.choices.now plan.now }
-        ensures price { result.0 ≡ least B.Cost.ops (slice_index self.now.choices.now bay) (trial B.Cost.ops (B.meaning self.now.book.now) self.now.choices.now self.now.lines.now self.now.cells.now force.now bay (byte_of plan.now)) }
-        ensures choice { result.1 ≡ least_at B.Cost.ops (slice_index self.now.choices.now bay) (trial B.Cost.ops (B.meaning self.now.book.now) self.now.choices.now self.now.lines.now self.now.cells.now force.now bay (byte_of plan.now)) }
+    // The least over the choices of a bay of what its terms cost, and the first choice that has it. The loop of `lowest` is
+    // like this one, but calls its own function and keeps no choice: so each has its own.
+    pub(crate) fn settle(&self, force: &[bool; 112], bay: u8) -> Settled<B::Cost>
+        requires some { 0 < slice_index self.now.terms.now.choices.now bay }
+        ensures price { result.price ≡ least B.Cost.ops (slice_index self.now.terms.now.choices.now bay) (trial B.Cost.ops (B.meaning self.now.terms.now.book.now) self.now.terms.now.choices.now self.now.terms.now.lines.now self.now.terms.now.cells.now force.now bay (byte_of self.now.plan)) }
+        ensures choice { result.choice ≡ least_at B.Cost.ops (slice_index self.now.terms.now.choices.now bay) (trial B.Cost.ops (B.meaning self.now.terms.now.book.now) self.now.terms.now.choices.now self.now.terms.now.lines.now self.now.terms.now.cells.now force.now bay (byte_of self.now.plan)) }
     {
-        let mut best = self.charge(force, bay, &with_choice(plan, bay, 0));
-        let mut first = 0;
-        for choice in 1..self.choices[bay as usize] {
-            let price = self.charge(force, bay, &with_choice(plan, bay, choice));
-            if !best.at_most(price) {
-                best = price;
-                first = choice;
+        let mut best = Settled {
+            price: self.with_choice(bay, 0).charge(force, bay),
+            choice: 0,
+        };
+        // A choice is the value tried, and not an index.
+        for choice in 1..self.terms.choices[usize::from(bay)] {
+            let price = self.with_choice(bay, choice).charge(force, bay);
+            if !best.price.at_most(price) {
+                best = Settled { price, choice };
             }
         }
-        (best, first)
+        best
     }
 }

@@ -24,7 +24,7 @@ pub(crate) fn start_force(bays: usize, rules: usize) -> [bool; 112]
     array::from_fn(|number| starts_at(bays, rules, number))
 }
 
-// Lines that no bay has been passed on.
+// Lines that no bay has been passed on. An array has no empty places, and the line table is one: so each holds some line.
 pub(crate) fn blank_lines() -> [Line; 24]
     ensures { (cs : List ℕ) → Sound cs result }
 {

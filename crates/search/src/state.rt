@@ -28,14 +28,19 @@ pub(crate) enum Passed {
 #[derive(Drop)]
 pub(crate) struct Search<P> {
     pub(crate) choices: [u8; 24],
+    // An array with its depth beside it, whose newest line is lent and changed through `&mut self`: that form is asked for.
+    // So what takes the newest line asks for a depth above 0.
     pub(crate) lines: [Line; 24],
     pub(crate) depth: usize,
+    // The ceiling until a plan is found, and then that plan's price, as in the model's state: so it stands beside `plan`,
+    // and not in it.
     pub(crate) best: P,
     pub(crate) plan: Option<[u8; 24]>,
     pub(crate) count: u32,
     pub(crate) limit: u32,
     pub(crate) k: Bound,
     ghost within: { count ≤ limit },
+    // An array's length, which its type tells, is not known of a field read through a reference: so it is said here.
     ghost long: { length lines ≡ 24 },
     ghost wide: { length choices ≡ 24 },
     ghost sound: { Sound choices lines } by { Sound_prop choices lines },
@@ -46,7 +51,7 @@ pub(crate) struct Search<P> {
 pub(crate) struct AtLimit;
 
 // What a search goes by: a book, and who picks the bays.
-#[derive(Clone, Copy)]
+#[derive(Drop)]
 pub(crate) struct Given<'a, B, K> {
     pub(crate) book: &'a B,
     pub(crate) picker: &'a K,

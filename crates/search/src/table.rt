@@ -8,8 +8,8 @@ ghost use Rattle.search.specs.Places.{bays_from, byte_of, decoded as decoded_of,
 
 use crate::decide::Table;
 use crate::places::decoded;
+use crate::pricing::Pricing;
 use crate::state::{Left, Search};
-use crate::terms::Terms;
 use books::book::Book;
 use prices::price::Price;
 
@@ -42,7 +42,6 @@ impl<P: Price> Search<P> {
         table: Table,
         plan: &[u8; 24],
     )
-        requires bay { bay < 24 }
         requires some { 0 < slice_index self.now.choices bay }
         requires few { Few self.now.choices }
         requires fits { Fits (B.meaning book.now) self.now.choices }
@@ -56,14 +55,12 @@ impl<P: Price> Search<P> {
         ensures table { (k : ℕ) → k < table.size → slice_index_or scratch.new (left.now.used + k) P.ops.forbidden ≡ least P.ops (slice_index self.now.choices bay) (trial P.ops (B.meaning book.now) self.now.choices self.now.lines scratch.old left.now.force.now bay (byte_of (decoded_of self.now.choices (has table.near) 0 24 k plan.now))) }
     {
         for place in 0..table.size {
-            let spot = decoded(&self.choices, table.near, place, *plan);
-            let terms = Terms {
-                book,
-                choices: &self.choices,
-                lines: &self.lines,
-                cells: scratch,
+            let terms = self.terms(book, scratch);
+            let pricing = Pricing {
+                terms: &terms,
+                plan: decoded(&self.choices, table.near, place, *plan),
             };
-            let cell = terms.settle(left.force, bay, &spot).0;
+            let cell = pricing.settle(left.force, bay).price;
             add_cell(scratch, left.used + place, cell);
         }
     }

@@ -10,10 +10,9 @@ ghost use Rattle.search.specs.Force.{line_at};
 ghost use Rattle.search.specs.Places.{bays_from, byte_of, Open};
 ghost use Rattle.search.specs.Visit.{State, Framed, sofar, visited, passing, folding, branching, folds_of, set_in, is_near};
 
-use crate::choices::choices_set;
 use crate::decide::{Table, decide_step};
+use crate::pricing::Pricing;
 use crate::state::{AtLimit, Given, Left, Line, Passed, Search};
-use crate::terms::Terms;
 use bays::without;
 use books::book::Book;
 use pickers::picker::Picker;
@@ -22,19 +21,17 @@ use prices::price::Price;
 impl<P: Price> Search<P> {
     // No bay remains: the floor becomes the best, and the plan is read back.
     fn arrive<B: Book<Cost = P>>(&mut self, book: &B, left: &Left, floor: P, scratch: &[P])
-        requires ok { State (B.meaning book.now) self.old self.old.depth left.now.remaining left.now.force.now left.now.used (length scratch.now) }
+        requires ok { State (B.meaning book.now) self.old self.old.depth left.now (length scratch.now) }
         ensures state { sofar self.new false ≡ arrived floor (read P.ops (byte_of self.old.choices) (folds_of P.ops (B.meaning book.now) self.old.choices self.old.lines scratch.now self.old.depth) (set_in self.old.lines self.old.depth)) (sofar self.old false) }
         ensures framed { Framed self.old.depth self.old self.new }
         ensures lines { self.new.lines ≡ self.old.lines }
     {
-        let set = choices_set(&self.lines, self.depth);
-        let terms = Terms {
-            book,
-            choices: &self.choices,
-            lines: &self.lines,
-            cells: scratch,
+        let terms = self.terms(book, scratch);
+        let pricing = Pricing {
+            terms: &terms,
+            plan: self.choices_set(),
         };
-        let plan = terms.read_back(self.depth, set);
+        let plan = pricing.read_back(self.depth);
         self.best = floor;
         self.plan = Some(plan);
     }
@@ -47,8 +44,8 @@ impl<P: Price> Search<P> {
         left: &Left,
         scratch: &mut [P],
     ) -> Result<(), AtLimit>
-        requires ok { State (B.meaning given.now.book.now) self.old self.old.depth left.now.remaining left.now.force.now left.now.used (length scratch.old) }
-        ensures state { (n : ℕ) → length (bays_from left.now.remaining 0) ≤ n → sofar self.new (is_err result) ≡ visited P.ops (B.meaning given.now.book.now) (answers_of (K.answer given.now.picker.now)) self.old left.now.remaining left.now.force.now left.now.used scratch.old n (sofar self.old false) }
+        requires ok { State (B.meaning given.now.book.now) self.old self.old.depth left.now (length scratch.old) }
+        ensures state { (n : ℕ) → length (bays_from left.now.remaining 0) ≤ n → sofar self.new (is_err result) ≡ visited P.ops (B.meaning given.now.book.now) (answers_of (K.answer given.now.picker.now)) self.old left.now scratch.old n (sofar self.old false) }
         ensures framed { Framed self.old.depth self.old self.new }
         ensures cells { take left.now.used scratch.new ≡ take left.now.used scratch.old }
     {
@@ -56,14 +53,7 @@ impl<P: Price> Search<P> {
             return Err(AtLimit);
         }
         self.count += 1;
-        let set = choices_set(&self.lines, self.depth);
-        let terms = Terms {
-            book: given.book,
-            choices: &self.choices,
-            lines: &self.lines,
-            cells: scratch,
-        };
-        let floor = terms.floor(left.force, left.remaining, &set);
+        let floor = self.floor(given.book, left, scratch);
         if self.best.at_most(floor) {
             return Ok(());
         }
@@ -82,9 +72,9 @@ impl<P: Price> Search<P> {
         left: &Left,
         scratch: &mut [P],
     ) -> Result<(), AtLimit>
-        requires ok { State (B.meaning given.now.book.now) self.old self.old.depth left.now.remaining left.now.force.now left.now.used (length scratch.old) }
+        requires ok { State (B.meaning given.now.book.now) self.old self.old.depth left.now (length scratch.old) }
         requires some { 0 < left.now.remaining }
-        ensures state { (n : ℕ) → length (bays_from left.now.remaining 0) ≤ n + 1 → sofar self.new (is_err result) ≡ passing P.ops (B.meaning given.now.book.now) (answers_of (K.answer given.now.picker.now)) self.old left.now.remaining left.now.force.now left.now.used scratch.old n (sofar self.old false) }
+        ensures state { (n : ℕ) → length (bays_from left.now.remaining 0) ≤ n + 1 → sofar self.new (is_err result) ≡ passing P.ops (B.meaning given.now.book.now) (answers_of (K.answer given.now.picker.now)) self.old left.now scratch.old n (sofar self.old false) }
         ensures framed { Framed self.old.depth self.old self.new }
         ensures cells { take left.now.used scratch.new ≡ take left.now.used scratch.old }
     {
@@ -102,7 +92,8 @@ impl<P: Price> Search<P> {
         }
     }
 
-    // The bay's terms leave force, and their combination, least over its choices, joins as a table over the neighbours.
+    // The bay's terms leave force, and their combination, least over its choices, joins as a table over the neighbours. The bay and
+    // its table stand apart from what was decided, since a branched bay has none.
     #[cycle(visits)]
     fn fold_bay<B: Book<Cost = P>, K: Picker>(
         &mut self,
@@ -113,7 +104,7 @@ impl<P: Price> Search<P> {
         bay: u8,
         table: Table,
     ) -> Result<(), AtLimit>
-        requires ok { State (B.meaning given.now.book.now) self.old self.old.depth left.now.remaining left.now.force.now left.now.used (length scratch.old) }
+        requires ok { State (B.meaning given.now.book.now) self.old self.old.depth left.now (length scratch.old) }
         requires remains { member bay (bays_from left.now.remaining 0) ≡ true }
         requires rests { bays_from rest 0 ≡ drop_bay bay (bays_from left.now.remaining 0) }
         requires opened { Open self.old.choices rest }
@@ -122,18 +113,13 @@ impl<P: Price> Search<P> {
         requires short { length (bays_from table.near 0) ≤ 4 }
         requires whole { table.size ≡ product (byte_of self.old.choices) (bays_from table.near 0) }
         requires fits { table.size ≤ length scratch.old - left.now.used }
-        ensures state { (n : ℕ) → length (bays_from rest 0) ≤ n → sofar self.new (is_err result) ≡ folding P.ops (B.meaning given.now.book.now) (answers_of (K.answer given.now.picker.now)) self.old rest left.now.force.now left.now.used scratch.old bay table.size n (sofar self.old false) }
+        ensures state { (n : ℕ) → length (bays_from rest 0) ≤ n → sofar self.new (is_err result) ≡ folding P.ops (B.meaning given.now.book.now) (answers_of (K.answer given.now.picker.now)) self.old rest left.now scratch.old bay table.size n (sofar self.old false) }
         ensures framed { Framed self.old.depth self.old self.new }
         ensures cells { take left.now.used scratch.new ≡ take left.now.used scratch.old }
     {
-        let set = choices_set(&self.lines, self.depth);
+        let set = self.choices_set();
         self.fill(given.book, scratch, left, bay, table, &set);
-        let terms = Terms {
-            book: given.book,
-            choices: &self.choices,
-            lines: &self.lines,
-            cells: scratch,
-        };
+        let terms = self.terms(given.book, scratch);
         let after = terms.folded_force(left.force, bay, self.depth);
         self.push(Line {
             bay,
@@ -154,6 +140,7 @@ impl<P: Price> Search<P> {
     }
 
     // The choices of the bay are tried, on a line of its own.
+    // That the bay is below 24 is asked here and by `try_choices` alone: all else has it from the bay's choices.
     #[cycle(visits)]
     fn branch_bay<B: Book<Cost = P>, K: Picker>(
         &mut self,
@@ -162,10 +149,10 @@ impl<P: Price> Search<P> {
         scratch: &mut [P],
         bay: u8,
     ) -> Result<(), AtLimit>
-        requires ok { State (B.meaning given.now.book.now) self.old self.old.depth left.now.remaining left.now.force.now left.now.used (length scratch.old) }
+        requires ok { State (B.meaning given.now.book.now) self.old self.old.depth left.now (length scratch.old) }
         requires deeper { self.old.depth + length (bays_from left.now.remaining 0) < 24 }
         requires inside { bay < 24 }
-        ensures state { (n : ℕ) → length (bays_from left.now.remaining 0) ≤ n → sofar self.new (is_err result) ≡ branching P.ops (B.meaning given.now.book.now) (answers_of (K.answer given.now.picker.now)) self.old self.old.depth left.now.remaining left.now.force.now left.now.used scratch.old bay (slice_index self.old.choices bay) n (sofar self.old false) }
+        ensures state { (n : ℕ) → length (bays_from left.now.remaining 0) ≤ n → sofar self.new (is_err result) ≡ branching P.ops (B.meaning given.now.book.now) (answers_of (K.answer given.now.picker.now)) self.old self.old.depth left.now scratch.old bay (slice_index self.old.choices bay) n (sofar self.old false) }
         ensures framed { Framed self.old.depth self.old self.new }
         ensures cells { take left.now.used scratch.new ≡ take left.now.used scratch.old }
     {
@@ -187,16 +174,17 @@ impl<P: Price> Search<P> {
         scratch: &mut [P],
         bay: u8,
     ) -> Result<(), AtLimit>
-        requires ok { State (B.meaning given.now.book.now) self.old (self.old.depth - 1) left.now.remaining left.now.force.now left.now.used (length scratch.old) }
+        requires ok { State (B.meaning given.now.book.now) self.old (self.old.depth - 1) left.now (length scratch.old) }
         requires opens { 0 < self.old.depth }
         requires newest { (line_at self.old.lines (self.old.depth - 1)).bay ≡ bay }
         requires inside { bay < 24 }
-        ensures state { (k : ℕ) → length (bays_from left.now.remaining 0) ≤ k → sofar self.new (is_err result) ≡ branching P.ops (B.meaning given.now.book.now) (answers_of (K.answer given.now.picker.now)) self.old (self.old.depth - 1) left.now.remaining left.now.force.now left.now.used scratch.old bay (slice_index self.old.choices bay) k (sofar self.old false) }
+        ensures state { (k : ℕ) → length (bays_from left.now.remaining 0) ≤ k → sofar self.new (is_err result) ≡ branching P.ops (B.meaning given.now.book.now) (answers_of (K.answer given.now.picker.now)) self.old (self.old.depth - 1) left.now scratch.old bay (slice_index self.old.choices bay) k (sofar self.old false) }
         ensures framed { Framed (self.old.depth - 1) self.old self.new }
         ensures newest { (line_at self.new.lines (self.new.depth - 1)).bay ≡ bay }
         ensures cells { take left.now.used scratch.new ≡ take left.now.used scratch.old }
     {
-        for choice in 0..self.choices[bay as usize] {
+        // A choice is the value tried, and not an index.
+        for choice in 0..self.choices[usize::from(bay)] {
             self.advance(choice);
             self.visit(given, left, scratch)?;
         }

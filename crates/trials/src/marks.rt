@@ -38,7 +38,7 @@ impl<B: Book> Evening<B> {
         Ok(())
     }
 
-    // Suspends a rule, or puts it in force again.
+    // Suspends a rule, or puts it in force again: `on` is the value that is written, and picks no branch.
     fn turn(&mut self, rule: u32, on: bool) -> Result<(), Refusal>
         ensures sheet { BySheet B.meaning (turn_of on rule) (of_mark result) self.old self.new }
         ensures answer { of_mark result ≡ turning on (B.meaning (below_of self.old)) (off_at self.old rule) rule }

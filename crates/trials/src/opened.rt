@@ -1,4 +1,5 @@
-// An evening as it is opened, and what can be read of one.
+// An evening as it is opened, and what can be read of one. `as` loses none: at most four trials are open, and a `usize` has room
+// for 32 bits.
 ghost use Rattle.std.specs.Prelude.{◌≡◌, []};
 ghost use Rattle.trials.specs.Changes.{pin_at, off_at, below_of, depth_of};
 ghost use Rattle.trials.specs.Follows.{EachSheet, Follows, pile_book};

@@ -127,7 +127,7 @@ fn close_at<B: Book>(
 ) -> Outcome
     ensures { ByRack B.meaning evening.old rack.old (closing_at ending place) result evening.new rack.new }
 {
-    // Of a slice's `get_mut` the prover does not know what it leaves behind.
+    // Not `get_mut`: its contract does not say what the slice then is.
     if place >= rack.len() {
         return Outcome::NoCall;
     }

@@ -26,7 +26,7 @@ impl Ticket {
     }
 }
 
-// A ticket that was refused, handed back as it was.
+// A ticket that was refused, handed back as it was. The refusal is always a wrong ticket: whoever prints one reads it from here.
 pub struct Returned {
     pub refusal: Refusal,
     pub ticket: Ticket,

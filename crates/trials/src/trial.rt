@@ -65,10 +65,7 @@ impl<B: Book> Evening<B> {
             return Err(ticket.refused());
         }
         ticket.spend();
-        let Some(saved) = self.saved.pop() else {
-            unreachable!();
-        };
-        Ok(saved)
+        Ok(self.saved.pop().unwrap())
     }
 
     // Opens a trial inside those that are open, at most four, and hands out its ticket.

@@ -1,8 +1,9 @@
 use Rattle.std.proofs.Common.{◌≡◌, ℕ, ◌-◌, ◌^◌, ◌<◌, ◌≤◌, List, ℤ, length, sym, ap, ◌∙◌, subst, ap₂, arith, w8, to_z, of_z}
 use lib.Count.{ones}
+use Rattle.std.specs.Int.Count.{ones-ones}
 use Rattle.std.proofs.lemmas.Int.{to_z-of_z}
 use Rattle.course.specs.Masks.{sets_of, tries_of, course_of}
-use Rattle.course.proofs.Starts.{full_small, ones_full, lines_are}
+use Rattle.course.proofs.Starts.{full_small, lines_are}
 use Rattle.course.proofs.course.write_lines.Goals as goal
 
 pub fill-requires : goal.fill-requires
@@ -12,7 +13,7 @@ fill-requires g c =
     let is = c.first.ensures.few (omega arith) in
     record {
       few = subst (λ (x : ℕ). x < 16777216) (sym is) (full_small bays few);
-      count = ap ones is ∙ ones_full bays few;
+      count = ap ones is ∙ ones-ones bays;
     }
 
 pub returns : goal.returns

@@ -8,4 +8,4 @@ cells-requires c =
 
 pub returns : goal.returns
 returns c =
-    rule_skips c.args.top c.in_ok-n.n c.from.result c.cells.result c.args.counts.bytes.now c.args.bytes.now c.in_ok-scope.scope.now c.in_ok-n.rest.now c.in_ok-scope.rest.now c.cells-2.result c.in_ok-n.ensures c.from.ensures c.in_ok-scope.ensures c.cells.ensures.size c.cells-2.ensures
+    rule_skips c.args.top c.in_ok-n.n c.from.result c.cells.result c.args.counts.bytes.now c.args.bytes.now c.in_ok-scope.scope.now c.in_ok-n.rest.now c.in_ok-scope.rest.now c.cells-2.result c.in_ok-n.ensures c.from.ensures c.in_ok-scope.ensures c.cells.ensures c.cells-2.ensures

@@ -19,7 +19,7 @@ overflow_add-next t c =
 pub place-requires : goal.place-requires
 place-requires t c =
     let s = place_step c.args.choices.now c.args.plan.now c.args.set c.args.bay c.args.so_far (omega arith) (sym c.if-has.ensures) c.requires.open c.requires.legal c.requires.fits in
-    (search rules, (omega arith, (c.requires.open, (c.requires.legal, s.fits))))
+    (search rules, (omega arith, (c.requires.open, (c.requires.legal, rw (c.from.ensures, c.from-then-has.ensures, c.from-at.ensures) s.fits))))
 
 pub place-requires-else-has : goal.place-requires-else-has
 place-requires-else-has t c =
@@ -29,7 +29,7 @@ place-requires-else-has t c =
 pub returns-then-has : goal.returns-then-has
 returns-then-has t c =
     let e = members_in (has c.args.set) c.args.bay 24 (omega arith) (sym c.if-has.ensures) in
-    c.place.ensures ∙ sym (ap (λ (bs : List ℕ). place (byte_of c.args.choices.now) c.args.so_far bs (byte_of c.args.plan.now)) e)
+    rw (c.from.ensures, c.from-then-has.ensures, c.from-at.ensures) at c.place.ensures ∙ sym (ap (λ (bs : List ℕ). place (byte_of c.args.choices.now) c.args.so_far bs (byte_of c.args.plan.now)) e)
 
 pub returns-else-has : goal.returns-else-has
 returns-else-has t c =

@@ -8,7 +8,7 @@ loop-bay-init c = no_digits c.args.choices.now c.args.set c.args.at c.args.plan
 pub loop-bay-preserved-then-has : goal.loop-bay-preserved-then-has
 loop-bay-preserved-then-has c =
     let l = c.loop-bay in
-    more_digits c.args.choices.now c.args.set (l.bay - 1) c.args.at c.args.plan l.picks l.left l.bay (omega arith) (omega arith) l.invariant c.requires.open (sym c.if-has.ensures)
+    rw (c.from-then-has.ensures, c.from-tries.ensures, c.from.ensures) (more_digits c.args.choices.now c.args.set (l.bay - 1) c.args.at c.args.plan l.picks l.left l.bay (omega arith) (omega arith) l.invariant c.requires.open (sym c.if-has.ensures))
 
 pub loop-bay-preserved : goal.loop-bay-preserved
 loop-bay-preserved c =

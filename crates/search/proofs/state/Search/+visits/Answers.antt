@@ -6,7 +6,7 @@ use Rattle.course.specs.Views.{answers_of}
 use Rattle.model.specs.Lists.{product}
 use Rattle.model.specs.Search.{Sofar, arrived, counted, visit, each}
 use Rattle.model.specs.Sets.{has}
-use Rattle.model.specs.Terms.{Plan, read, put, folded, floor}
+use Rattle.model.specs.Terms.{Plan, read, put, folded}
 use Rattle.model.proofs.Listed.{drop_fewer}
 use Rattle.search.specs.Force.{Told, told, line_at, terms_from}
 use Rattle.search.specs.Places.{bays_from, byte_of}
@@ -61,17 +61,11 @@ branch_bay-returns g t c =
       cells = x.cells;
     }
 
-pub fold_bay-fill-requires-clause-bay : goal.fold_bay-fill-requires-clause-bay
-fold_bay-fill-requires-clause-bay g t c = omega (arith, (members_sound (has c.args.left.now.remaining) c.args.bay 0 24 c.requires.remains).2)
-
 pub fold_bay-fill-requires-clause-some : goal.fold_bay-fill-requires-clause-some
 fold_bay-fill-requires-clause-some g t c = c.requires.ok.opened c.args.bay (members_sound (has c.args.left.now.remaining) c.args.bay 0 24 c.requires.remains).0
 
 pub fold_bay-fill-requires-clause-legal : goal.fold_bay-fill-requires-clause-legal
 fold_bay-fill-requires-clause-legal g t c = let a = c.args.self.now in set_ok_in a.choices a.lines a.depth c.choices_set-set.result c.requires.ok.legal c.choices_set-set.ensures
-
-pub fold_bay-folded_force-after-requires-clause-bay : goal.fold_bay-folded_force-after-requires-clause-bay
-fold_bay-folded_force-after-requires-clause-bay g t c = omega (arith, (members_sound (has c.args.left.now.remaining) c.args.bay 0 24 c.requires.remains).2)
 
 pub fold_bay-push-requires : goal.fold_bay-push-requires
 fold_bay-push-requires g t c =
@@ -98,10 +92,10 @@ fold_bay-visit-visited-requires g t c κs within =
             within.1.1.0,
             (
               within.1.1.1,
-              fold_state g.P.Price.ops m c.args.self.now c.push.new.self c.args.bay c.args.table c.args.left.now.remaining c.args.rest c.args.left.now.force.now c.folded_force-after.result c.args.left.now.used (length c.fill.new.scratch)
+              fold_state g.P.Price.ops m c.args.self.now c.push.new.self c.args.bay c.args.table c.args.left.now _ (length c.fill.new.scratch)
                   (record { fits = st.fits; few = st.few; legal = st.legal; opened = st.opened; small = st.small; deep = st.deep; room = omega (arith, st.room); tabled = st.tabled; stack = st.stack }) (omega (arith, less, st.deep)) pe.depth pe.lines
                   (record { choices = pe.same.choices; best = pe.same.best; plan = pe.same.plan; count = pe.same.count; limit = pe.same.limit; k = pe.same.k })
-                  (omega (arith, in_left.2)) (st.opened c.args.bay in_left.0) (λ i e. st.opened i (and_parts (has c.args.left.now.remaining i) _ (sym (c.requires.nears i) ∙ e)).0) c.requires.opened c.requires.small c.requires.short c.requires.whole (omega (arith, c.requires.fits, st.room)) c.folded_force-after.ensures,
+                  (omega (arith, in_left.2)) (st.opened c.args.bay in_left.0) (λ i e. st.opened i (and_parts (has c.args.left.now.remaining i) _ (sym (c.requires.nears i) ∙ e)).0) c.requires.opened c.requires.small c.requires.short c.requires.whole (omega (arith, c.requires.fits, st.room)) refl (λ j. rw (c.terms-terms.ensures.book, c.terms-terms.ensures.lines) at (c.folded_force-after.ensures j)),
             ),
           ),
         ),
@@ -145,7 +139,7 @@ fold_bay-returns g t c =
           (ap (λ (y : List ℕ). folds_of K m y p.lines cells' p.depth) pe.same.choices ∙ ap (folds_of K m a.choices p.lines cells') pe.depth)
           (sofar_same a p false (record { choices = pe.same.choices; best = pe.same.best; plan = pe.same.plan; count = pe.same.count; limit = pe.same.limit; k = pe.same.k }))
           ∙ fold_core K m a.choices a.lines p.lines cells cells' a.depth used c.args.bay c.args.table.near c.args.table.size c.args.left.now.remaining force c.folded_force-after.result set
-          (omega (arith, c.choices_set-set.type_inv)) st.opened legal deep st.tabled st.stack keeps at c.fill.ensures.kept c.fill.ensures.table c.folded_force-after.ensures c.requires.remains c.requires.nears c.requires.whole
+          (omega (arith, c.choices_set-set.type_inv)) st.opened legal deep st.tabled st.stack keeps at c.fill.ensures.kept c.fill.ensures.table (λ j. rw (c.terms-terms.ensures.book, c.terms-terms.ensures.lines) at (c.folded_force-after.ensures j)) c.requires.remains c.requires.nears c.requires.whole
           pick a.k a.limit n c.args.rest (length cells - used - c.args.table.size) (sofar a false) c.requires.rests
           ∙ ap (λ (σ : Plan). visit (setup_of K a.choices pick a.k a.limit) n (bays_from c.args.rest 0) (folded K (byte_of a.choices) c.args.bay ts) (length cells - used - c.args.table.size) σ (record { bay = c.args.bay; terms = ts } ∷ folds_of K m a.choices a.lines cells a.depth) (sofar a false)) c.choices_set-set.ensures;
       framed = record {
@@ -161,7 +155,7 @@ fold_bay-returns g t c =
 pub pass-fold_bay-requires : goal.pass-fold_bay-requires
 pass-fold_bay-requires g t c κs within =
     let b = c.decide_step-next.result.bay in
-    let de = by_table g.P.Price.ops (g.B.Book.meaning c.args.given.now.book.now) (answers_of (g.K.Picker.answer c.args.given.now.picker.now)) c.args.self.now c.args.left.now.remaining c.args.left.now.force.now c.args.left.now.used c.args.scratch.now b c.decide_step-next.result.table c.decide_step-next.ensures c.in-Some.table c.in-Some.is in
+    let de = by_table g.P.Price.ops (g.B.Book.meaning c.args.given.now.book.now) (answers_of (g.K.Picker.answer c.args.given.now.picker.now)) c.args.self.now c.args.left.now c.args.scratch.now b c.decide_step-next.result.table c.decide_step-next.ensures c.in-Some.table c.in-Some.is in
     let lt : b < 24 = omega (arith, (members_sound (has c.args.left.now.remaining) b 0 24 de.bay_in).2) in
     let less = rest_less c.args.left.now.remaining b c.without-rest.result c.without-rest.ensures de.bay_in in (
       search rules,
@@ -183,7 +177,7 @@ pass-fold_bay-requires g t c κs within =
 pub pass-branch_bay-requires : goal.pass-branch_bay-requires
 pass-branch_bay-requires g t c κs within =
     let b = c.decide_step-next.result.bay in
-    let by = by_none g.P.Price.ops (g.B.Book.meaning c.args.given.now.book.now) (answers_of (g.K.Picker.answer c.args.given.now.picker.now)) c.args.self.now c.args.left.now.remaining c.args.left.now.force.now c.args.left.now.used c.args.scratch.now b c.decide_step-next.result.table c.decide_step-next.ensures c.in-None.is in
+    let by = by_none g.P.Price.ops (g.B.Book.meaning c.args.given.now.book.now) (answers_of (g.K.Picker.answer c.args.given.now.picker.now)) c.args.self.now c.args.left.now c.args.scratch.now b c.decide_step-next.result.table c.decide_step-next.ensures c.in-None.is in
     let de = by.2 in
     let st = c.requires.ok in
     let lt : b < 24 = omega (arith, (members_sound (has c.args.left.now.remaining) b 0 24 de.bay_in).2) in
@@ -215,7 +209,7 @@ pass-returns-in-Some-clause-state g t c =
     let a = c.args.self.now in
     let cells = c.args.scratch.now in
     let b = c.decide_step-next.result.bay in
-    let de = by_table g.P.Price.ops (g.B.Book.meaning c.args.given.now.book.now) (answers_of (g.K.Picker.answer c.args.given.now.picker.now)) c.args.self.now c.args.left.now.remaining c.args.left.now.force.now c.args.left.now.used c.args.scratch.now b c.decide_step-next.result.table c.decide_step-next.ensures c.in-Some.table c.in-Some.is in
+    let de = by_table g.P.Price.ops (g.B.Book.meaning c.args.given.now.book.now) (answers_of (g.K.Picker.answer c.args.given.now.picker.now)) c.args.self.now c.args.left.now c.args.scratch.now b c.decide_step-next.result.table c.decide_step-next.ensures c.in-Some.table c.in-Some.is in
     let lt : b < 24 = omega (arith, (members_sound (has c.args.left.now.remaining) b 0 24 de.bay_in).2) in
     let less = rest_less c.args.left.now.remaining b c.without-rest.result c.without-rest.ensures de.bay_in in
     let S = setup_of K a.choices pick a.k a.limit in
@@ -237,7 +231,7 @@ pass-returns-in-None-clause-state g t c =
     let a = c.args.self.now in
     let cells = c.args.scratch.now in
     let b = c.decide_step-next.result.bay in
-    let by = by_none g.P.Price.ops (g.B.Book.meaning c.args.given.now.book.now) (answers_of (g.K.Picker.answer c.args.given.now.picker.now)) c.args.self.now c.args.left.now.remaining c.args.left.now.force.now c.args.left.now.used c.args.scratch.now b c.decide_step-next.result.table c.decide_step-next.ensures c.in-None.is in
+    let by = by_none g.P.Price.ops (g.B.Book.meaning c.args.given.now.book.now) (answers_of (g.K.Picker.answer c.args.given.now.picker.now)) c.args.self.now c.args.left.now c.args.scratch.now b c.decide_step-next.result.table c.decide_step-next.ensures c.in-None.is in
     let de = by.2 in
     let lt : b < 24 = omega (arith, (members_sound (has c.args.left.now.remaining) b 0 24 de.bay_in).2) in
     let less = rest_less c.args.left.now.remaining b c.without-rest.result c.without-rest.ensures de.bay_in in
@@ -266,8 +260,8 @@ try_choices-visit-requires g t c κs within =
             within.1.1.0,
             (
               within.1.1.1,
-              try_state g.P.Price.ops m c.args.self.now c.loop-choice.self c.advance.new.self y.remaining y.force.now y.used (length c.args.scratch.now) (length c.loop-choice.scratch) c.args.bay c.loop-choice.choice
-                  c.requires.ok c.requires.opens e.framed e.newest c.advance.ensures.depth c.advance.ensures.lines c.advance.ensures.same c.requires.inside (omega arith) (omega arith),
+              try_state g.P.Price.ops m c.args.self.now c.loop-choice.self c.advance.new.self y (length c.args.scratch.now) (length c.loop-choice.scratch) c.args.bay c.loop-choice.choice
+                  c.requires.ok c.requires.opens e.framed e.newest c.advance.ensures.depth c.advance.ensures.lines c.advance.ensures.same c.requires.inside (omega (arith, ap (λ (n : ℕ). get_or c.args.self.now.choices n 0) c.from.ensures)) (omega (arith, ap (λ (n : ℕ). get_or c.args.self.now.choices n 0) c.from.ensures)),
             ),
           ),
         ),
@@ -298,9 +292,9 @@ try_choices-loop-choice-preserved g t c =
     record {
       state = λ k l.
           let f = λ (z : ℕ). visit S k (bays_from y.remaining 0) ts unused (put c.args.bay z σ) folds in
-          x.state k l ∙ try_visited K m a u v y.remaining y.force.now y.used (length cells) (length cells') c.args.bay n c.requires.ok c.requires.opens e.framed e.newest ae.depth ae.lines ae.same pick cells cells' k (each n f (sofar a false)) e.cells (omega arith) (e.state k l) ∙ sym (each_next n f (sofar a false));
-      framed = try_framed K m a u v y.remaining y.force.now y.used (length cells) (length cells') c.args.bay n c.requires.ok c.requires.opens e.framed e.newest ae.depth ae.lines ae.same w x.framed;
-      newest = try_newest_bay K m a u v y.remaining y.force.now y.used (length cells) (length cells') c.args.bay n c.requires.ok c.requires.opens e.framed e.newest ae.depth ae.lines ae.same w x.framed;
+          x.state k l ∙ try_visited K m a u v y (length cells) (length cells') c.args.bay n c.requires.ok c.requires.opens e.framed e.newest ae.depth ae.lines ae.same pick cells cells' k (each n f (sofar a false)) e.cells (omega arith) (e.state k l) ∙ sym (each_next n f (sofar a false));
+      framed = try_framed K m a u v y (length cells) (length cells') c.args.bay n c.requires.ok c.requires.opens e.framed e.newest ae.depth ae.lines ae.same w x.framed;
+      newest = try_newest_bay K m a u v y (length cells) (length cells') c.args.bay n c.requires.ok c.requires.opens e.framed e.newest ae.depth ae.lines ae.same w x.framed;
       cells = x.cells ∙ e.cells;
     }
 
@@ -328,11 +322,11 @@ try_choices-returns-in_err-visit g t c =
     record {
       state = λ k l.
           let f = λ (z : ℕ). visit S k (bays_from y.remaining 0) ts unused (put c.args.bay z σ) folds in
-          let is = x.state k l ∙ try_visited K m a u v y.remaining y.force.now y.used (length cells) (length cells') c.args.bay n c.requires.ok c.requires.opens e.framed e.newest ae.depth ae.lines ae.same pick cells cells' k (each n f (sofar a false)) e.cells (omega arith) (e.state k l) ∙ sym (each_next n f (sofar a false)) in
+          let is = x.state k l ∙ try_visited K m a u v y (length cells) (length cells') c.args.bay n c.requires.ok c.requires.opens e.framed e.newest ae.depth ae.lines ae.same pick cells cells' k (each n f (sofar a false)) e.cells (omega arith) (e.state k l) ∙ sym (each_next n f (sofar a false)) in
           ap (sofar w) c.from_residual.ensures.0 ∙ is
-          ∙ sym (each_still f (sofar a false) (λ (s : Sofar _). s.stopped) (λ z s h. visit_idle S s ts unused (put c.args.bay z σ) folds k (bays_from y.remaining 0) h) (n + 1) (get_or a.choices c.args.bay 0) (omega arith) (sym (ap (λ (s : Sofar _). s.stopped) is)));
-      framed = try_framed K m a u v y.remaining y.force.now y.used (length cells) (length cells') c.args.bay n c.requires.ok c.requires.opens e.framed e.newest ae.depth ae.lines ae.same w x.framed;
-      newest = try_newest_bay K m a u v y.remaining y.force.now y.used (length cells) (length cells') c.args.bay n c.requires.ok c.requires.opens e.framed e.newest ae.depth ae.lines ae.same w x.framed;
+          ∙ sym (each_still f (sofar a false) (λ (s : Sofar _). s.stopped) (λ z s h. visit_idle S s ts unused (put c.args.bay z σ) folds k (bays_from y.remaining 0) h) (n + 1) (get_or a.choices c.args.bay 0) (omega (arith, ap (λ (n : ℕ). get_or c.args.self.now.choices n 0) c.from.ensures)) (sym (ap (λ (s : Sofar _). s.stopped) is)));
+      framed = try_framed K m a u v y (length cells) (length cells') c.args.bay n c.requires.ok c.requires.opens e.framed e.newest ae.depth ae.lines ae.same w x.framed;
+      newest = try_newest_bay K m a u v y (length cells) (length cells') c.args.bay n c.requires.ok c.requires.opens e.framed e.newest ae.depth ae.lines ae.same w x.framed;
       cells = x.cells ∙ e.cells;
     }
 
@@ -342,8 +336,8 @@ try_choices-returns-clause-state g t c =
     let pick = answers_of (g.K.Picker.answer c.args.given.now.picker.now) in
     let a = c.args.self.now in
     let y = c.args.left.now in
-    let z : c.loop-choice.choice ≡ get_or a.choices c.args.bay 0 = omega arith in
-    λ k h. c.loop-choice.invariant.state k h ∙ ap (λ (n : ℕ). branching g.P.Price.ops m pick a (a.depth - 1) y.remaining y.force.now y.used c.args.scratch.now c.args.bay n k (sofar a false)) z
+    let z : c.loop-choice.choice ≡ get_or a.choices c.args.bay 0 = omega (arith, ap (λ (n : ℕ). get_or c.args.self.now.choices n 0) c.from.ensures) in
+    λ k h. c.loop-choice.invariant.state k h ∙ ap (λ (n : ℕ). branching g.P.Price.ops m pick a (a.depth - 1) y c.args.scratch.now c.args.bay n k (sofar a false)) z
 
 pub visit-returns-then-self-clause-state : goal.visit-returns-then-self-clause-state
 visit-returns-then-self-clause-state g t c =
@@ -354,9 +348,6 @@ visit-returns-then-self-clause-state g t c =
     let cells = c.args.scratch.now in
     λ n h. sym (visit_halted (setup_of K a.choices pick a.k a.limit) (sofar a false) (terms_from K m a.choices a.lines cells c.args.left.now.force.now 0) (length cells - c.args.left.now.used) (set_in a.lines a.depth) (folds_of K m a.choices a.lines cells a.depth) n (bays_from c.args.left.now.remaining 0) c.if-self.true)
 
-pub visit-floor-floor-requires-clause-legal : goal.visit-floor-floor-requires-clause-legal
-visit-floor-floor-requires-clause-legal g t c = let a = c.args.self.now in set_ok_in a.choices a.lines a.depth c.choices_set-set.result c.requires.ok.legal c.choices_set-set.ensures
-
 pub visit-returns-then-at_most-clause-state : goal.visit-returns-then-at_most-clause-state
 visit-returns-then-at_most-clause-state g t c =
     let K = g.P.Price.ops in
@@ -364,7 +355,7 @@ visit-returns-then-at_most-clause-state g t c =
     let pick = answers_of (g.K.Picker.answer c.args.given.now.picker.now) in
     let a = c.args.self.now in
     let cells = c.args.scratch.now in
-    let low = c.floor-floor.ensures ∙ ap (λ (π : Plan). floor K (byte_of a.choices) (terms_from K m a.choices a.lines cells c.args.left.now.force.now 0) (bays_from c.args.left.now.remaining 0) π) c.choices_set-set.ensures in
+    let low = c.floor-floor.ensures in
     λ n h. sym (visit_cut (setup_of K a.choices pick a.k a.limit) (sofar a false) (terms_from K m a.choices a.lines cells c.args.left.now.force.now 0) (length cells - c.args.left.now.used) (set_in a.lines a.depth) (folds_of K m a.choices a.lines cells a.depth) n (bays_from c.args.left.now.remaining 0) refl c.if-self.false
     (ap (λ p. K.at_most a.best p) (sym low) ∙ sym c.if-at_most.ensures))
 
@@ -376,7 +367,7 @@ visit-returns-then-left-eq0-clause-state g t c =
     let a = c.args.self.now in
     let cells = c.args.scratch.now in
     let folds = folds_of K m a.choices a.lines cells a.depth in
-    let low = c.floor-floor.ensures ∙ ap (λ (π : Plan). floor K (byte_of a.choices) (terms_from K m a.choices a.lines cells c.args.left.now.force.now 0) (bays_from c.args.left.now.remaining 0) π) c.choices_set-set.ensures in
+    let low = c.floor-floor.ensures in
     λ n h. c.arrive.ensures.state ∙ ap (λ p. arrived p (read K (byte_of a.choices) folds (set_in a.lines a.depth)) (counted (sofar a false))) low
     ∙ sym (visit_leaf (setup_of K a.choices pick a.k a.limit) (sofar a false) (terms_from K m a.choices a.lines cells c.args.left.now.force.now 0) (length cells - c.args.left.now.used) (set_in a.lines a.depth) folds n (bays_from c.args.left.now.remaining 0) (ap length (ap (λ (x : ℕ). bays_from x 0) c.if-left-eq0.true ∙ no_bays)) refl c.if-self.false
     (ap (λ p. K.at_most a.best p) (sym low) ∙ sym c.if-at_most.ensures))
@@ -389,7 +380,7 @@ visit-returns-clause-state g t c =
     let a = c.args.self.now in
     let cells = c.args.scratch.now in
     let some : 0 < length (bays_from c.args.left.now.remaining 0) = some_bays c.args.left.now.remaining (omega (arith, c.if-left-eq0.false)) c.requires.ok.small in
-    let low = c.floor-floor.ensures ∙ ap (λ (π : Plan). floor K (byte_of a.choices) (terms_from K m a.choices a.lines cells c.args.left.now.force.now 0) (bays_from c.args.left.now.remaining 0) π) c.choices_set-set.ensures in
+    let low = c.floor-floor.ensures in
     λ n h. c.pass.ensures.state (n - 1) (omega arith)
     ∙ sym (visit_on (setup_of K a.choices pick a.k a.limit) (sofar a false) (terms_from K m a.choices a.lines cells c.args.left.now.force.now 0) (length cells - c.args.left.now.used) (set_in a.lines a.depth) (folds_of K m a.choices a.lines cells a.depth) n (bays_from c.args.left.now.remaining 0) some h refl c.if-self.false
     (ap (λ p. K.at_most a.best p) (sym low) ∙ sym c.if-at_most.ensures))

@@ -24,7 +24,7 @@ abbrev pub invariant-try_choices-loop-choice : goal.invariant-try_choices-loop-c
 invariant-try_choices-loop-choice g l =
     let a = l.initial.self in
     record {
-      state : (k : ℕ) → length (bays_from l.left.remaining 0) ≤ k → sofar l.self false ≡ branching g.P.Price.ops (g.B.Book.meaning l.given.book.now) (answers_of (g.K.Picker.answer l.given.picker.now)) a (a.depth - 1) l.left.remaining l.left.force.now l.left.used l.initial.scratch l.bay l.choice k (sofar a false);
+      state : (k : ℕ) → length (bays_from l.left.remaining 0) ≤ k → sofar l.self false ≡ branching g.P.Price.ops (g.B.Book.meaning l.given.book.now) (answers_of (g.K.Picker.answer l.given.picker.now)) a (a.depth - 1) l.left l.initial.scratch l.bay l.choice k (sofar a false);
       framed : Framed (a.depth - 1) a l.self;
       newest : (line_at l.self.lines (l.self.depth - 1)).bay ≡ l.bay;
       cells : take l.left.used l.scratch ≡ take l.left.used l.initial.scratch;

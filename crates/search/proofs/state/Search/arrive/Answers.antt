@@ -1,5 +1,7 @@
+use Rattle.std.proofs.Common.{sym, subst}
+use Rattle.search.specs.Places.{PlanOk}
 use Rattle.search.proofs.Settled.{set_ok_in}
 use Rattle.search.proofs.state.Search.arrive.Goals as goal
 
-pub read_back-plan-requires-clause-legal : goal.read_back-plan-requires-clause-legal
-read_back-plan-requires-clause-legal g c = let a = c.args.self.now in set_ok_in a.choices a.lines a.depth c.choices_set-set.result c.requires.ok.legal c.choices_set-set.ensures
+pub invariant_of-pricing-clause-legal : goal.invariant_of-pricing-clause-legal
+invariant_of-pricing-clause-legal g c = let a = c.args.self.now in subst (λ cs. PlanOk cs c.choices_set.result) (sym c.terms-terms.ensures.choices) (set_ok_in a.choices a.lines a.depth c.choices_set.result c.requires.ok.legal c.choices_set.ensures)

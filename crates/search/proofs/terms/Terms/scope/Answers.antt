@@ -1,7 +1,7 @@
 use Rattle.std.proofs.Common.{sym, ap, ◌∙◌, arith}
 use Rattle.std.proofs.lemmas.Nat.{one_shl}
 use Rattle.search.specs.Force.{scope_of}
-use Rattle.search.proofs.Readings.{scope_own, scope_rule, scope_table}
+use Rattle.search.proofs.Readings.{scope_own, scope_rule, scope_table, scope_past}
 use Rattle.search.proofs.terms.Terms.scope.Goals as goal
 
 pub returns-in-0-to-23 : goal.returns-in-0-to-23
@@ -15,3 +15,6 @@ returns-in-Branched g c = sym (scope_table (g.B.Book.meaning c.args.self.now.boo
 
 pub returns-in-Folded : goal.returns-in-Folded
 returns-in-Folded g c = sym (scope_table (g.B.Book.meaning c.args.self.now.book.now) c.args.self.now.lines.now c.args.number (omega arith) ∙ ap scope_of c.in-Folded.is)
+
+pub returns-in_default : goal.returns-in_default
+returns-in_default g c = sym (scope_past (g.B.Book.meaning c.args.self.now.book.now) c.args.self.now.lines.now c.args.number (omega arith) c.args.self.now.long)
