@@ -1,11 +1,10 @@
--- What a test of each bay, and a fold over bays or rules, come to.
-use Rattle.std.proofs.Common.{◌≡◌, ℕ, zero, suc, ◌+◌, ◌<◌, ◌≤◌, Bool, true, false, ◌&&◌, ltb, List, [], ◌∷◌, ◌++◌, length, get_or, take, refl, ap, length-take-le, ◌∙◌, arith, add-one, lt-ltb, le-ltb}
-use Rattle.std.specs.List.{fold, list_all, range_with_len, enumerate_from}
+-- What a fold over bays or rules comes to, and what it takes for bytes to begin with a plan.
+use Rattle.std.proofs.Common.{◌≡◌, ℕ, zero, suc, ◌+◌, ◌<◌, ◌≤◌, true, false, ◌&&◌, ltb, List, [], ◌∷◌, ◌++◌, length, get_or, take, refl, ap, length-take-le, ◌∙◌, arith, add-one, lt-ltb, le-ltb}
+use Rattle.std.specs.List.{fold, range_with_len, enumerate_from}
 use Rattle.std.proofs.Math.Decide.{dec_lt}
 use Rattle.std.proofs.Math.Seq.{take-suc}
-use Rattle.std.proofs.lemmas.List.Folds.{list_all-append}
 use Rattle.std.proofs.lemmas.List.Sums.{fold_push}
-use mathlib.Core.Bool.{and-true, and-false}
+use mathlib.Core.Bool.{and-false}
 use Rattle.model.proofs.Kept.{counting_more}
 use Rattle.model.specs.Prices.{Ops}
 use Rattle.model.specs.Books.{begins}
@@ -13,13 +12,6 @@ use Rattle.model.specs.Plans.{sum_below}
 
 counting_next : (n : ℕ) → range_with_len 0 (suc n) ≡ range_with_len 0 n ++ n ∷ []
 counting_next n = counting_more 0 n ∙ ap (λ k. range_with_len 0 n ++ k ∷ []) (omega arith)
-
-pub begins_by_all : (choices : ℕ → ℕ) (n : ℕ) (plan : List ℕ) → list_all (λ i. ltb (get_or plan i 255) (choices i)) (range_with_len 0 n) ≡ begins choices n plan
-begins_by_all choices zero plan = refl
-begins_by_all choices (suc n) plan =
-    let p : ℕ → Bool = λ i. ltb (get_or plan i 255) (choices i) in
-    ap (list_all p) (counting_next n) ∙ list_all-append p (range_with_len 0 n) (n ∷ []) ∙ ap (λ b. b && list_all p (n ∷ [])) (begins_by_all choices n plan)
-    ∙ ap (λ b. begins choices n plan && b) (and-true (p n))
 
 module _ {P : Type 0} (o : Ops P) where
   pub sum_by_fold : (f : ℕ → P) (n : ℕ) → fold (λ sum i. o.combine sum (f i)) o.free (range_with_len 0 n) ≡ sum_below o f n
@@ -44,7 +36,7 @@ module _ {P : Type 0} (o : Ops P) where
       ∙ ap (λ i. add (fold add o.free (enumerate_from 0 (take n plan))) (i, x)) (omega (arith, length-take-le n plan (omega arith)))
       ∙ ap (λ sum. add sum (n, x)) (owns_by_fold own plan n (omega arith))
 
--- what it takes for bytes to begin with a plan; layout reads plans bay by bay
+-- `layout` reads plans bay by bay too
 pub begins_next : (choices : ℕ → ℕ) (n : ℕ) (plan : List ℕ) → begins choices n plan ≡ true → get_or plan n 255 < choices n → begins choices (n + 1) plan ≡ true
 begins_next choices n plan before here = rw add-one (ap (λ b. b && ltb (get_or plan n 255) (choices n)) before ∙ lt-ltb _ _ here)
 

@@ -1,24 +1,26 @@
 // Plans: one choice for every bay, and what it costs.
-ghost use Rattle.std.specs.Prelude.{◌≡◌, ◌≤◌, length, nat_lt, slice_index_or};
+ghost use Rattle.std.specs.Prelude.{◌≡◌, ◌≤◌, length};
 ghost use Rattle.model.specs.Books.{planned};
 ghost use Rattle.model.specs.Plans.{plan_price, owns, charges};
 
 use crate::book::Book;
 use prices::price::Price;
 
-// Whether the bytes have a choice of this bay; a missing byte is none.
-fn has_choice<B: Book>(book: &B, plan: &[u8], bay: usize) -> bool
-    ensures { result ≡ nat_lt (slice_index_or plan.now bay 255) ((B.meaning book.now).choices bay) }
-{
-    plan.get(bay)
-        .is_some_and(|choice| *choice < book.choices(bay))
-}
-
-// Whether the bytes begin with a plan of the book, one byte a bay.
+// Whether the bytes begin with a plan of the book, one byte a bay. A loop: `all` over a closure took half as long again on a book
+// of 24 bays, and six times as long on bytes too short.
 pub fn is_plan<B: Book>(book: &B, plan: &[u8]) -> bool
     ensures { result ≡ planned (B.meaning book.now) plan.now }
 {
-    (0..book.bays()).all(|bay| has_choice(book, plan, bay))
+    let bays = book.bays();
+    if plan.len() < bays {
+        return false;
+    }
+    for bay in 0..bays {
+        if plan[bay] >= book.choices(bay) {
+            return false;
+        }
+    }
+    true
 }
 
 // The own prices of all bays under a plan.

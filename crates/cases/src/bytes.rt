@@ -10,12 +10,12 @@ fn digit(byte: u8) -> u8 {
     }
 }
 
-// Two digits a byte.
-fn decoded(heap: Global, digits: &str) -> Result<Vec<u8>, AllocError> {
-    let pairs = digits.as_bytes().chunks_exact(2);
-    pairs
-        .map(|pair| digit(pair[0]).wrapping_mul(16) | digit(pair[1]))
-        .collect(heap)
+// Two digits a byte, put at the end.
+fn decode(digits: &str, bytes: &mut Vec<u8>) -> Result<(), AllocError> {
+    for pair in digits.as_bytes().chunks_exact(2) {
+        bytes.push(digit(pair[0]).wrapping_mul(16) | digit(pair[1]))?;
+    }
+    Ok(())
 }
 
 // Pieces parted by commas, each two digits a byte; `00*96` stands for 96 times the same, and a count that is no number
@@ -24,10 +24,10 @@ pub(crate) fn bytes_of(heap: Global, text: &str) -> Result<Vec<u8>, AllocError> 
     let mut bytes = Vec::new(heap);
     for piece in text.split(',') {
         let mut parts = piece.split('*');
-        let digits = decoded(heap, parts.next().unwrap_or(""))?;
+        let digits = parts.next().unwrap_or("");
         let times = parts.next().unwrap_or("1").parse::<u32>().unwrap_or(0);
         for _ in 0..times {
-            bytes.extend_from_slice(digits.as_slice())?;
+            decode(digits, &mut bytes)?;
         }
     }
     Ok(bytes)

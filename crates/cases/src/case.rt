@@ -1,27 +1,36 @@
-// The evening of a case, over the book that its `E` line gives.
+// A case: the book that its `E` line gives, and the evening over it.
 use crate::bytes::bytes_of;
 use crate::fault::Fault;
 use crate::numbers::numbers;
+use books::book::Book;
 use layers::quiet::QuietHours;
 use layout::{HouseBook, read};
-use prices::cents::Cents;
 use prices::stored::Stored;
 use prices::upto::Upto;
-use prices::waits::Waits;
+use refusals::Refusal;
 use std::alloc::{AllocError, Global};
 use trials::evening::Evening;
 
-// An evening over a book as it is, or over its quiet hours.
+// An evening over a book as it is, or over its quiet hours. A book that is read holds 64 KiB, so it lies on the heap.
 #[derive(Drop)]
 pub enum Hours<B> {
-    Open(Evening<B>),
-    Quiet(Evening<QuietHours<B>>),
+    Open(Box<Evening<B>>),
+    Quiet(Box<Evening<QuietHours<B>>>),
+}
+
+// The bytes of a book, the last choices of its quiet hours, and the evening over it, which the first line that asks for it
+// begins: a case that nothing is asked of has none.
+#[derive(Drop)]
+pub struct Opened<const TOP: u32> {
+    bytes: Vec<u8>,
+    last: Option<[u8; 24]>,
+    evening: Option<Hours<HouseBook<Upto<TOP>>>>,
 }
 
 #[derive(Drop)]
 pub enum Case {
-    Cents(Hours<HouseBook<Cents>>),
-    Waits(Hours<HouseBook<Waits>>),
+    Cents(Opened<1_000_000_000>),
+    Waits(Opened<1441>),
 }
 
 // The last choice of each bay; none but for 24 numbers.
@@ -30,30 +39,57 @@ fn last_choices(heap: Global, text: &str) -> Result<Option<[u8; 24]>, AllocError
     Ok(<[u8; 24]>::try_from(list.as_slice()).ok())
 }
 
-// An evening over the book in bytes. No case opens trials, so every evening has the number 0.
-fn opened<const TOP: u32>(
-    heap: Global,
-    hex: &str,
-    quiet: &str,
-) -> Result<Hours<HouseBook<Upto<TOP>>>, Fault>
+// No case opens trials, so every evening has the number 0.
+#[inline(never)]
+fn evening<B: Book + Drop>(heap: Global, book: B) -> Result<Box<Evening<B>>, AllocError> {
+    Ok(Box::new(heap, Evening::new(0, book))?)
+}
+
+impl<const TOP: u32> Opened<TOP>
 where
     Upto<TOP>: Stored<Offer = u32>,
 {
-    let bytes = bytes_of(heap, hex)?;
-    let last = last_choices(heap, quiet)?;
-    let book = read::<Upto<TOP>>(bytes.as_slice())?;
-    Ok(match last {
-        Some(last) => Hours::Quiet(Evening::new(0, QuietHours { below: book, last })),
-        None => Hours::Open(Evening::new(0, book)),
-    })
+    // The book in bytes, if they are one.
+    fn open(heap: Global, hex: &str, quiet: &str) -> Result<Opened<TOP>, Fault> {
+        let bytes = bytes_of(heap, hex)?;
+        let last = last_choices(heap, quiet)?;
+        read::<Upto<TOP>>(bytes.as_slice())?;
+        Ok(Opened {
+            bytes,
+            last,
+            evening: None,
+        })
+    }
+
+    // A new evening over the book.
+    fn begun(&self, heap: Global) -> Result<Hours<HouseBook<Upto<TOP>>>, Fault> {
+        Ok(match self.last {
+            Some(last) => {
+                let below = read::<Upto<TOP>>(self.bytes.as_slice())?;
+                Hours::Quiet(evening(heap, QuietHours { below, last })?)
+            }
+            None => Hours::Open(evening(heap, read::<Upto<TOP>>(self.bytes.as_slice())?)?),
+        })
+    }
+
+    // Answers a line over the evening.
+    pub(crate) fn answer(&mut self, heap: Global, fields: &[&str]) -> Result<String, Fault> {
+        if let Some(hours) = &mut self.evening {
+            return hours.answer(heap, fields);
+        }
+        let mut hours = self.begun(heap)?;
+        let answer = hours.answer(heap, fields);
+        self.evening = Some(hours);
+        answer
+    }
 }
 
 impl Case {
     // The book of a mark from bytes in hex, perhaps under quiet hours. Nothing is pinned or suspended.
     pub(crate) fn open(heap: Global, mark: &str, hex: &str, quiet: &str) -> Result<Case, Fault> {
         match mark {
-            "CTS" => Ok(Case::Cents(opened(heap, hex, quiet)?)),
-            "MIN" => Ok(Case::Waits(opened(heap, hex, quiet)?)),
+            "CTS" => Ok(Case::Cents(Opened::open(heap, hex, quiet)?)),
+            "MIN" => Ok(Case::Waits(Opened::open(heap, hex, quiet)?)),
             _ => Err(Fault::Unread),
         }
     }

@@ -51,7 +51,7 @@ impl<const TOP: u32, B: Book<Cost = Upto<TOP>>> Hours<B>
 where
     Upto<TOP>: Price<Offer = u32>,
 {
-    fn answer(&mut self, heap: Global, fields: &[&str]) -> Result<String, Fault> {
+    pub(crate) fn answer(&mut self, heap: Global, fields: &[&str]) -> Result<String, Fault> {
         match self {
             Hours::Open(evening) => over(heap, evening, fields),
             Hours::Quiet(evening) => over(heap, evening, fields),
@@ -81,8 +81,8 @@ pub(crate) fn answer(
         };
     }
     match case {
-        Some(Ok(Case::Cents(hours))) => hours.answer(heap, fields),
-        Some(Ok(Case::Waits(hours))) => hours.answer(heap, fields),
+        Some(Ok(Case::Cents(opened))) => opened.answer(heap, fields),
+        Some(Ok(Case::Waits(opened))) => opened.answer(heap, fields),
         Some(Err(_)) => Err(Fault::Closed),
         None => Err(Fault::Unread),
     }

@@ -1,5 +1,5 @@
 // Reading a book into a copy.
-ghost use Rattle.std.specs.Prelude.{◌≡◌, ◌≤◌, [], length, IfOk, IfErr, MatchResult};
+ghost use Rattle.std.specs.Prelude.{◌≡◌, ◌≤◌, [], length, take, IfOk, IfErr, MatchResult};
 ghost use Rattle.format.specs.Pieces.{got, bad};
 ghost use Rattle.format.specs.House.{book_in, FitsBook, book_bytes, Refused};
 ghost use Rattle.layout.specs.Kept.{layout_of, kept_layout};
@@ -7,18 +7,19 @@ ghost use Rattle.reader.specs.Indexed.{Found, layout_by};
 
 use crate::book::HouseBook;
 use crate::kept::Kept;
-use arrayvec::ArrayVec;
 use prices::stored::Stored;
 use reader::Index;
 use refusals::Refusal;
 use std::marker::PhantomData;
 
-// A copy of some bytes, which fit.
-fn copied(body: &[u8]) -> ArrayVec<u8, 65536>
+// A copy of some bytes, with zeros after them.
+fn copied(body: &[u8]) -> [u8; 65536]
     requires { length body.now ≤ 65536 }
-    ensures { result.items ≡ body.now }
+    ensures { take (length body.now) result ≡ body.now }
 {
-    ArrayVec::try_from(body).unwrap()
+    let mut copy = [0; 65536];
+    copy[..body.len()].copy_from_slice(body);
+    copy
 }
 
 // A copy of the bytes after mark and version, by an index of them.
@@ -29,6 +30,7 @@ fn kept(body: &[u8], index: Index) -> Kept
 {
     Kept {
         bytes: copied(body),
+        len: body.len(),
         index,
     }
 }

@@ -1,7 +1,8 @@
 // What a book tells, read from its copy.
 ghost use Rattle.std.specs.Prelude.{◌≡◌, ◌≤◌, true, length, MatchOption};
 ghost use Rattle.format.specs.House.{counts_of};
-ghost use Rattle.layout.specs.Kept.{kept_layout, StandsAt};
+ghost use Rattle.reader.specs.Indexed.{items};
+ghost use Rattle.layout.specs.Kept.{held, kept_layout, StandsAt};
 ghost use Rattle.layout.specs.Meant.{mask_of, choices_in, own_in, cell_in, nth_rule, planned_in};
 
 use crate::kept::Kept;
@@ -9,21 +10,21 @@ use crate::tables::{from_place, mask, nth_price, place};
 
 impl Kept {
     fn body(&self) -> &[u8]
-        ensures { result.now ≡ self.now.bytes.items }
+        ensures { result.now ≡ held self.now }
     {
-        self.bytes.as_slice()
+        &self.bytes[..self.len]
     }
 
     pub(crate) fn bays(&self) -> usize
         ensures { result ≡ length (kept_layout self.now).own }
     {
-        self.index.own_at.len()
+        self.index.own_at.as_slice().len()
     }
 
     pub(crate) fn rules(&self) -> usize
         ensures { result ≡ length (kept_layout self.now).rules }
     {
-        self.index.rule_at.len()
+        self.index.rule_at.as_slice().len()
     }
 
     // The choices of each bay, which stand after the two counts.
@@ -52,7 +53,7 @@ impl Kept {
 
     // The bays of a rule, where they stand, and its prices with all that follows them.
     fn rule(&self, rule: usize) -> Option<(&[u8], &[u8])>
-        ensures { MatchOption result (length self.now.index.rule_at.items ≤ rule) (λ p. StandsAt self.now rule p.0.now p.1.now) }
+        ensures { MatchOption result (length (items self.now.index.rule_at) ≤ rule) (λ p. StandsAt self.now rule p.0.now p.1.now) }
     {
         let rest = from_place(self.body(), self.index.rule_at.as_slice(), rule)?;
         Some(rest[1..].split_at(usize::from(rest[0])))
@@ -69,12 +70,21 @@ impl Kept {
     }
 
     // Whether the bytes begin with a choice for every bay. Rattle does not cover a call of `books::plan::is_plan` on the book
-    // within its own `impl Book`: a method of the block leads back to the function that calls.
+    // within its own `impl Book`: a method of the block leads back to the function that calls. A loop: every price of a rule asks
+    // this, and `all` over zipped slices took four times as long.
     pub(crate) fn is_plan(&self, plan: &[u8]) -> bool
         ensures { result ≡ planned_in (kept_layout self.now) plan.now }
     {
-        let counts = self.counts();
-        plan.len() >= counts.len() && counts.iter().zip(plan).all(|(n, choice)| choice < n)
+        let bays = self.bays();
+        if plan.len() < bays {
+            return false;
+        }
+        for bay in 0..bays {
+            if plan[bay] >= self.choices(bay) {
+                return false;
+            }
+        }
+        true
     }
 
     // The cell of a rule under a plan.

@@ -3,7 +3,7 @@ use Rattle.std.proofs.Common.{◌≡◌, ℕ, ◌+◌, ◌*◌, ◌<◌, ◌≤�
 use Rattle.std.proofs.lemmas.List.{length-drop, drop-drop, length-take-le}
 use Rattle.refusals.specs.declared.Refusal.{Refusal}
 use Rattle.refusals.specs.declared.Refusal.TheVariants.{CutBook}
-use Rattle.arrayvec.specs.ArrayVec.{ArrayVec}
+use Rattle.reader.specs.declared.places.Places.{Places}
 use Rattle.format.specs.Pieces.{Got, got, bad, and_then, piece_in}
 use Rattle.model.specs.Lists.{Each}
 use Rattle.format.specs.House.{Rule, Layout, book_in, ended, FitsRule, FitsBody, counts_of, cells_in, count_piece, mark_piece, version_piece}
@@ -15,7 +15,7 @@ use Rattle.format.proofs.Refused.{book_short}
 use Rattle.format.proofs.Stepped.{run_book}
 use Rattle.reader.specs.Places.{choices_at, rows_at, rules_at, scope_at, table_at}
 use Rattle.reader.specs.Finds.{Ends, Rows, Rules}
-use Rattle.reader.specs.Indexed.{Walked, Indexes, layout_by}
+use Rattle.reader.specs.Indexed.{items, Walked, Indexes, layout_by}
 use Rattle.reader.specs.declared.places.Index.{Index}
 use Rattle.reader.proofs.Noted.{ends_at}
 use Rattle.reader.proofs.Spans.{bytes_read}
@@ -71,21 +71,21 @@ pub left_over : {A : Type 0} (g : Got A) (a : A) (rest : List ℕ) → g ≡ got
 left_over g a [] e h = absurd (omega arith)
 left_over g a (b ∷ rest) e h = ap ended e
 
-pub walked : (top : ℕ) (bs : List ℕ) (few n bays rules : ℕ) (one two counts three four five : List ℕ) (own rule : ArrayVec ℕ) → count_of 1 24 bs ≡ got few one → count_of 0 64 one ≡ got n two → bays ≡ few → rules ≡ n → times bays (count_of 1 8) two ≡ got counts three → Rows top bs counts three own.items four → Rules top bs counts four rules rule.items five → five ≡ [] → top ≤ 4294967295 → Bytes bs → Walked top bs (record { own_at = own; rule_at = rule })
+pub walked : (top : ℕ) (bs : List ℕ) (few n bays rules : ℕ) (one two counts three four five : List ℕ) (own : Places 24) (rule : Places 64) → count_of 1 24 bs ≡ got few one → count_of 0 64 one ≡ got n two → bays ≡ few → rules ≡ n → times bays (count_of 1 8) two ≡ got counts three → Rows top bs counts three (items own) four → Rules top bs counts four rules (items rule) five → five ≡ [] → top ≤ 4294967295 → Bytes bs → Walked top bs (record { own_at = own; rule_at = rule })
 walked top bs few n bays rules one two counts three four five own rule e f eb en g r s none small bytes =
     let o = opened bs few n bays one two counts three e f eb g in
     let i : Index = record { own_at = own; rule_at = rule } in
-    let long : length counts ≡ length own.items = sym r.long in
-    let cs : counts ≡ choices_at bs (length own.items) = o.is ∙ ap (choices_at bs) (sym o.long ∙ long) in
-    let same : ◌≡◌ {A = Layout} (record { own = rows_at bs counts own.items (length counts); rules = rules_at bs counts rule.items rules }) (layout_by bs i) = λ j. record { own = rows_at bs (cs j) own.items (long j); rules = rules_at bs (cs j) rule.items (sym s.long j) } in
-    let body : body_in top bs ≡ got (layout_by bs i) five = body_is top bs few n bays rules one two counts three own.items four rule.items five e f eb en g r s ∙ ap (λ L. got L five) same in
+    let long : length counts ≡ length (items own) = sym r.long in
+    let cs : counts ≡ choices_at bs (length (items own)) = o.is ∙ ap (choices_at bs) (sym o.long ∙ long) in
+    let same : ◌≡◌ {A = Layout} (record { own = rows_at bs counts (items own) (length counts); rules = rules_at bs counts (items rule) rules }) (layout_by bs i) = λ j. record { own = rows_at bs (cs j) (items own) (long j); rules = rules_at bs (cs j) (items rule) (sym s.long j) } in
+    let body : body_in top bs ≡ got (layout_by bs i) five = body_is top bs few n bays rules one two counts three (items own) four (items rule) five e f eb en g r s ∙ ap (λ L. got L five) same in
     record {
       reads = ap ended (body ∙ ap (got (layout_by bs i)) none);
       found = record {
         fits = fits_weaker top 4294967295 (layout_by bs i) small (body_sound top (omega arith) bs (layout_by bs i) five bytes body).0;
         counts = omega (arith, o.inside, o.long, long);
-        rows = subst (λ (l : List ℕ). (j : ℕ) → j < length own.items → get_or own.items j 0 + 4 * get_or l j 0 ≤ length bs) cs (λ j h. r.rows j (omega (arith, long)));
-        tables = subst (λ (l : List ℕ). (k : ℕ) → k < length rule.items → table_at bs (get_or rule.items k 0) + 4 * cells_in l (scope_at bs (get_or rule.items k 0)) ≤ length bs) cs (λ k h. s.tables k (omega (arith, s.long)));
+        rows = subst (λ (l : List ℕ). (j : ℕ) → j < length (items own) → get_or (items own) j 0 + 4 * get_or l j 0 ≤ length bs) cs (λ j h. r.rows j (omega (arith, long)));
+        tables = subst (λ (l : List ℕ). (k : ℕ) → k < length (items rule) → table_at bs (get_or (items rule) k 0) + 4 * cells_in l (scope_at bs (get_or (items rule) k 0)) ≤ length bs) cs (λ k h. s.tables k (omega (arith, s.long)));
       };
     }
 

@@ -6,5 +6,5 @@ mod pieces;
 mod places;
 mod walk;
 
-pub use places::Index;
+pub use places::{Index, Places};
 pub use walk::index;

@@ -5,12 +5,11 @@ ghost use Rattle.format.specs.Pieces.{bad};
 ghost use Rattle.format.specs.House.{book_in, ended, FitsBook, book_bytes, Refused};
 ghost use Rattle.format.specs.Steps.{times, rule_in, prices_in, body_in};
 ghost use Rattle.reader.specs.Finds.{Ends, Rows, Rules};
-ghost use Rattle.reader.specs.Indexed.{Walked, Indexes, layout_by};
+ghost use Rattle.reader.specs.Indexed.{items, Walked, Indexes, layout_by};
 
 use crate::counts::Counts;
 use crate::pieces::{cells, choices, counted, header, rule, short_enough};
-use crate::places::Index;
-use arrayvec::ArrayVec;
+use crate::places::{Index, Places};
 use prices::stored::Stored;
 use refusals::Refusal;
 
@@ -21,11 +20,11 @@ fn rows<'a>(
     bytes: &'a [u8],
     counts: Counts,
     top: u32,
-) -> Result<(ArrayVec<usize, 24>, &'a [u8]), Refusal>
+) -> Result<(Places<24>, &'a [u8]), Refusal>
     requires { Ends body.now bytes.now }
-    ensures { MatchResult result (λ p. Rows top body.now counts.entry.bytes.now bytes.now p.0.items p.1.now) (λ e. prices_in top counts.entry.bytes.now bytes.now ≡ bad e) }
+    ensures { MatchResult result (λ p. Rows top body.now counts.entry.bytes.now bytes.now (items p.0) p.1.now) (λ e. prices_in top counts.entry.bytes.now bytes.now ≡ bad e) }
 {
-    let mut own_at = ArrayVec::new();
+    let mut own_at = Places::new();
     let mut rest = bytes;
     for n in counts.bytes {
         own_at.push(body.len() - rest.len());
@@ -41,12 +40,12 @@ fn rules<'a>(
     n: usize,
     counts: Counts,
     top: u32,
-) -> Result<(ArrayVec<usize, 64>, &'a [u8]), Refusal>
+) -> Result<(Places<64>, &'a [u8]), Refusal>
     requires ends { Ends body.now bytes.now }
     requires few { n ≤ 64 }
-    ensures { MatchResult result (λ p. Rules top body.now counts.entry.bytes.now bytes.now n p.0.items p.1.now) (λ e. times n (rule_in top counts.entry.bytes.now) bytes.now ≡ bad e) }
+    ensures { MatchResult result (λ p. Rules top body.now counts.entry.bytes.now bytes.now n (items p.0) p.1.now) (λ e. times n (rule_in top counts.entry.bytes.now) bytes.now ≡ bad e) }
 {
-    let mut rule_at = ArrayVec::new();
+    let mut rule_at = Places::new();
     let mut rest = bytes;
     for _i in 0..n {
         rule_at.push(body.len() - rest.len());
@@ -65,7 +64,9 @@ fn all_read(rest: &[u8]) -> Result<(), Refusal>
     Ok(())
 }
 
-// Walks over what follows mark and version, and writes down where each row and each rule begins.
+// Walks over what follows mark and version, and writes down where each row and each rule begins. Not inlined: within a caller it has the
+// 64 KiB of the caller's book blanked once more.
+#[inline(never)]
 fn walk(body: &[u8], top: u32) -> Result<Index, Refusal>
     ensures { MatchResult result (λ i. Walked top body.now i) (λ e. ended (body_in top body.now) ≡ bad e) }
 {

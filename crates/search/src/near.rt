@@ -10,15 +10,17 @@ use books::book::Book;
 use std::array;
 
 impl<'a, B: Book> Terms<'a, B> {
-    // The bays that share a term in force with a bay.
+    // The bays that share a term in force with a bay. Only the terms in force are asked for their scopes: a book's may be dear.
     fn touched(&self, force: &[bool; 112], bay: u8) -> u32
         ensures { (i : ℕ) → has_of result i ≡ shares (B.meaning self.now.book.now) self.now.lines.now force.now bay 0 i }
     {
         let mut bays = 0;
         for (number, on) in force.iter().enumerate().rev() {
-            let scope = self.scope(number);
-            if *on && has(scope, bay) {
-                bays |= scope;
+            if *on {
+                let scope = self.scope(number);
+                if has(scope, bay) {
+                    bays |= scope;
+                }
             }
         }
         bays

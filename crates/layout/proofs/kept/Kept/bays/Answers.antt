@@ -1,6 +1,7 @@
-use Rattle.std.proofs.Common.{◌∙◌}
+use Rattle.std.proofs.Common.{ℕ, List, length, ap, ◌∙◌}
+use Rattle.layout.specs.Kept.{held}
 use Rattle.layout.specs.Places.{bays_is}
 use Rattle.layout.proofs.kept.Kept.bays.Goals as goal
 
 pub returns : goal.returns
-returns c = c.len.ensures.value ∙ bays_is c.args.self.now.bytes.items c.args.self.now.index
+returns c = ap (λ (l : List ℕ). length l) c.as_slice.ensures ∙ bays_is (held c.args.self.now) c.args.self.now.index

@@ -5,7 +5,6 @@ use Rattle.model.specs.Sets.{has}
 use Rattle.search.proofs.Flags.{back_start, back_next}
 use Rattle.search.proofs.Steps.{shares_end, shares_off, shares_past, shares_on}
 use Rattle.search.specs.Force.{shares}
-use Rattle.search.proofs.terms.Terms.touched.Goals.{else-on-via-then-on+else-has, else-on-via-else-on}
 use Rattle.search.proofs.terms.Terms.touched.Goals as goal
 
 pub loop-number-init : goal.loop-number-init
@@ -36,6 +35,20 @@ loop-number-preserved-then-has g c =
           ∙ ap share (sym n.number_is),
     )
 
+pub loop-number-preserved-else-has : goal.loop-number-preserved-else-has
+loop-number-preserved-else-has g c =
+    let m = g.B.Book.meaning c.args.self.now.book.now in
+    let lines = c.args.self.now.lines.now in
+    let force = c.args.force.now in
+    let e = c.in-Some.ensures.steps in
+    let n = back_next force c.loop-number.number-iterator.iter.iter.rest.now c.next.new.self.iter.iter.rest.now c.in-Some.number c.in-Some.on.now _ _ c.loop-number.invariant.0 e.0 e.1.0 e.1.1 in (
+      n.back,
+      λ i. let share = λ (k : ℕ). shares m lines force c.args.bay k i in
+          c.loop-number.invariant.1 i ∙ ap share n.one
+          ∙ shares_past m lines force c.args.bay i c.in-Some.number (n.below c.told-force) (n.on_is ∙ c.if-on.true) (ap (λ (s : ℕ). has s c.args.bay) (sym c.scope-scope.ensures) ∙ sym c.if-has.ensures)
+          ∙ ap share (sym n.number_is),
+    )
+
 pub loop-number-preserved : goal.loop-number-preserved
 loop-number-preserved g c =
     let m = g.B.Book.meaning c.args.self.now.book.now in
@@ -46,9 +59,6 @@ loop-number-preserved g c =
       n.back,
       λ i. let share = λ (k : ℕ). shares m lines force c.args.bay k i in
           c.loop-number.invariant.1 i ∙ ap share n.one
-          ∙ elim c.else-on.branch [
-            | else-on-via-then-on+else-has w ↦ shares_past m lines force c.args.bay i c.in-Some.number (n.below c.told-force) (n.on_is ∙ w.if-on.true) (ap (λ (s : ℕ). has s c.args.bay) (sym c.scope-scope.ensures) ∙ sym w.if-has.ensures)
-            | else-on-via-else-on w ↦ shares_off m lines force c.args.bay i c.in-Some.number (n.below c.told-force) (n.on_is ∙ w.if-on.false)
-          ]
+          ∙ shares_off m lines force c.args.bay i c.in-Some.number (n.below c.told-force) (n.on_is ∙ c.if-on.false)
           ∙ ap share (sym n.number_is),
     )
