@@ -7,7 +7,6 @@ use layers::quiet::QuietHours;
 use layout::{HouseBook, read};
 use prices::stored::Stored;
 use prices::upto::Upto;
-use refusals::Refusal;
 use std::alloc::{AllocError, Global};
 use trials::evening::Evening;
 
@@ -39,7 +38,8 @@ fn last_choices(heap: Global, text: &str) -> Result<Option<[u8; 24]>, AllocError
     Ok(<[u8; 24]>::try_from(list.as_slice()).ok())
 }
 
-// No case opens trials, so every evening has the number 0.
+// An evening over a book. No case opens trials, so every evening has the number 0. Not inlined: a caller blanks room for both
+// kinds of evening, whichever it begins.
 #[inline(never)]
 fn evening<B: Book + Drop>(heap: Global, book: B) -> Result<Box<Evening<B>>, AllocError> {
     Ok(Box::new(heap, Evening::new(0, book))?)
@@ -61,7 +61,7 @@ where
         })
     }
 
-    // A new evening over the book.
+    // A new evening over the book, under its quiet hours if it has them.
     fn begun(&self, heap: Global) -> Result<Hours<HouseBook<Upto<TOP>>>, Fault> {
         Ok(match self.last {
             Some(last) => {
