@@ -6,17 +6,15 @@ ghost use Rattle.model.specs.Plans.{plan_price, owns, charges};
 use crate::book::Book;
 use prices::price::Price;
 
-// Whether the bytes begin with a plan of the book, one byte a bay. A loop: `all` over a closure took half as long again on a book
-// of 24 bays, and six times as long on bytes too short.
+// Whether the bytes begin with a plan of the book, one byte a bay. A loop: within some callers `all` took three times as long.
 pub fn is_plan<B: Book>(book: &B, plan: &[u8]) -> bool
     ensures { result ≡ planned (B.meaning book.now) plan.now }
 {
-    let bays = book.bays();
-    if plan.len() < bays {
+    let Some(choices) = plan.get(..book.bays()) else {
         return false;
-    }
-    for bay in 0..bays {
-        if plan[bay] >= book.choices(bay) {
+    };
+    for (bay, choice) in choices.iter().enumerate() {
+        if *choice >= book.choices(bay) {
             return false;
         }
     }

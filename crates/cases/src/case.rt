@@ -1,8 +1,8 @@
 // A case: the book that its `E` line gives, and the evening over it.
 use crate::bytes::bytes_of;
 use crate::fault::Fault;
+use crate::heaped::OnHeap;
 use crate::numbers::numbers;
-use books::book::Book;
 use layers::quiet::QuietHours;
 use layout::{HouseBook, read};
 use prices::stored::Stored;
@@ -10,11 +10,11 @@ use prices::upto::Upto;
 use std::alloc::{AllocError, Global};
 use trials::evening::Evening;
 
-// An evening over a book as it is, or over its quiet hours. A book that is read holds 64 KiB, so it lies on the heap.
+// An evening over a book as it is, or over its quiet hours.
 #[derive(Drop)]
 pub enum Hours<B> {
-    Open(Box<Evening<B>>),
-    Quiet(Box<Evening<QuietHours<B>>>),
+    Open(Evening<B>),
+    Quiet(Evening<QuietHours<B>>),
 }
 
 // The bytes of a book, the last choices of its quiet hours, and the evening over it, which the first line that asks for it
@@ -23,7 +23,7 @@ pub enum Hours<B> {
 pub struct Opened<const TOP: u32> {
     bytes: Vec<u8>,
     last: Option<[u8; 24]>,
-    evening: Option<Hours<HouseBook<Upto<TOP>>>>,
+    evening: Option<Hours<OnHeap<HouseBook<Upto<TOP>>>>>,
 }
 
 #[derive(Drop)]
@@ -36,13 +36,6 @@ pub enum Case {
 fn last_choices(heap: Global, text: &str) -> Result<Option<[u8; 24]>, AllocError> {
     let list = numbers(heap, text)?;
     Ok(<[u8; 24]>::try_from(list.as_slice()).ok())
-}
-
-// An evening over a book. No case opens trials, so every evening has the number 0. Not inlined: a caller blanks room for both
-// kinds of evening, whichever it begins.
-#[inline(never)]
-fn evening<B: Book + Drop>(heap: Global, book: B) -> Result<Box<Evening<B>>, AllocError> {
-    Ok(Box::new(heap, Evening::new(0, book))?)
 }
 
 impl<const TOP: u32> Opened<TOP>
@@ -61,14 +54,12 @@ where
         })
     }
 
-    // A new evening over the book, under its quiet hours if it has them.
-    fn begun(&self, heap: Global) -> Result<Hours<HouseBook<Upto<TOP>>>, Fault> {
+    // A new evening over the book, under its quiet hours if it has them. No case opens trials, so every evening has the number 0.
+    fn begun(&self, heap: Global) -> Result<Hours<OnHeap<HouseBook<Upto<TOP>>>>, Fault> {
+        let book = OnHeap::new(heap, read::<Upto<TOP>>(self.bytes.as_slice())?)?;
         Ok(match self.last {
-            Some(last) => {
-                let below = read::<Upto<TOP>>(self.bytes.as_slice())?;
-                Hours::Quiet(evening(heap, QuietHours { below, last })?)
-            }
-            None => Hours::Open(evening(heap, read::<Upto<TOP>>(self.bytes.as_slice())?)?),
+            Some(last) => Hours::Quiet(Evening::new(0, QuietHours { below: book, last })),
+            None => Hours::Open(Evening::new(0, book)),
         })
     }
 

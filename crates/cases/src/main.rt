@@ -13,6 +13,7 @@ mod bytes;
 mod case;
 mod courses;
 mod fault;
+mod heaped;
 mod named;
 mod numbers;
 mod pile;
