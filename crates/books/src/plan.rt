@@ -6,7 +6,7 @@ ghost use Rattle.model.specs.Plans.{plan_price, owns, charges};
 use crate::book::Book;
 use prices::price::Price;
 
-// Whether the bytes begin with a plan of the book, one byte a bay. A loop: within some callers `all` takes three times the instructions.
+// Whether the bytes begin with a plan of the book, one byte a bay. A loop: within one caller `all` takes three times the instructions.
 pub fn is_plan<B: Book>(book: &B, plan: &[u8]) -> bool
     ensures { result ≡ planned (B.meaning book.now) plan.now }
 {

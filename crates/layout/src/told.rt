@@ -71,7 +71,7 @@ impl Kept {
 
     // Whether the bytes begin with a choice for every bay. Rattle does not cover a call of `books::plan::is_plan` on the book
     // within its own `impl Book`: a method of the block leads back to the function that calls. A loop: every price of a rule asks
-    // this, and with `all` the prices of all rules took nearly twice as long.
+    // this, and within one caller `all` over zipped slices took three times as long.
     pub(crate) fn is_plan(&self, plan: &[u8]) -> bool
         ensures { result ≡ planned_in (kept_layout self.now) plan.now }
     {
